@@ -1,0 +1,9 @@
+mod Ahead
+mod Filling
+mod Cover
+mod Fronts
+mod Judged
+mod Numerals
+mod Readings
+mod Tokens
+mod Unique

@@ -1,0 +1,10 @@
+pub mod Tops
+pub mod Moving
+pub mod Landing
+pub mod Stepping
+pub mod Falls
+pub mod Equations
+pub mod Resuming
+pub mod Looping
+pub mod Calling
+pub mod Walking

@@ -1,0 +1,12 @@
+pub mod Trees
+pub mod Written
+pub mod Depths
+pub mod Grammar
+pub mod Scopes
+pub mod Types
+pub mod Check
+pub mod Values
+pub mod Run
+pub mod Laws
+pub mod Sources
+pub mod Known

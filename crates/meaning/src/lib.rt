@@ -1,0 +1,10 @@
+// What FenneC scripts are and mean. The definitions stand in specs/; here are the types and the table that code reads.
+mod laws;
+mod operator;
+mod results;
+
+pub use laws::known_results;
+pub use laws::laws_of_runs;
+pub use operator::Operator;
+pub use operator::Scalar;
+pub use results::result_type;

@@ -1,0 +1,12 @@
+pub mod Compiled
+pub mod Walk
+pub mod Low
+pub mod Operate
+pub mod Ends
+pub mod Holds
+pub mod Room
+pub mod Expressions
+pub mod Statements
+pub mod Scripts
+pub mod Deep
+pub mod Size
