@@ -16,15 +16,14 @@ use Rattle.std.specs.declared.result.Result.the-variants.{Ok, Err}
 use Rattle.refusal.specs.declared.reason.Refusal.{Refusal}
 use Rattle.refusal.specs.Told.{numberOf}
 use Rattle.std.proofs.shelf.Tests.{ne-eqb, and-left}
-use Rattle.lexer.specs.declared.class.Class.{Class}
-use Rattle.lexer.specs.declared.class.Class.the-variants.{Blank, Letter, Digit, Underscore, Quote, Mark, Stray}
+use Rattle.lexer.specs.declared.class.Class.the-variants.{Blank, Mark}
 use Rattle.lexer.specs.declared.kind.Kind.{Kind}
 use Rattle.lexer.specs.declared.kind.Token.{Token}
 use Rattle.lexer.specs.declared.reader.State.{State}
 use Rattle.lexer.specs.declared.reader.State.the-variants.{Code, LineComment, LongComment}
 use Rattle.lexer.specs.Classes.{classOf}
 use Rattle.lexer.specs.Spelling.{begins}
-use Rattle.lexer.specs.Reading.{Front, between, token, wrong, tokenFront, codeFront, commentOr, front, fault, Reading, stopped, preceded, tokenOf, ended, follow, readingFrom}
+use Rattle.lexer.specs.Reading.{between, token, wrong, tokenFront, codeFront, commentOr, front, fault, stopped, preceded, tokenOf, ended, follow, readingFrom}
 use Rattle.lexer.specs.Scans.{ahead, Stepped, TokenAt, afterNext, Next}
 
 -- bytes that belong to what came before are passed over
@@ -86,16 +85,6 @@ no-feed b f e = f (ap classOf e)
 pub no-close : (r : List ℕ) → (classOf (getD r 0 0) ≡ Mark → ⊥) → begins (42 ∷ 47 ∷ []) r ≡ false
 no-close [] f = refl
 no-close (b ∷ r) f = and-left (eqb b 42) (begins (47 ∷ []) r) (ne-eqb b 42 (λ e. f (ap classOf e)))
-
--- where no blank and no comment stands, a token may begin
-pub plain-front : (k : Class) (p : ℕ) (r : List ℕ) → (k ≡ Blank → ⊥) → (k ≡ Mark → ⊥) → codeFront k p r ≡ tokenFront k r
-plain-front Blank p r f g = absurd (f refl)
-plain-front Letter p r f g = refl
-plain-front Digit p r f g = refl
-plain-front Underscore p r f g = refl
-plain-front Quote p r f g = refl
-plain-front Mark p r f g = absurd (g refl)
-plain-front Stray p r f g = refl
 
 -- a token is taken
 pub took : (s : List ℕ) (at : ℕ) (k : Kind) (n v : ℕ) → at < length s → front Code at (drop at s) ≡ token k n v → 0 < n → at + n ≤ length s → (room : ℕ) → ahead s at Code room ≡ afterNext (Ok (Some (tokenOf k at n v))) s (at + n) Code room

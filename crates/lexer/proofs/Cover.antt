@@ -1,22 +1,21 @@
 -- No token that begins where a rest begins is longer than the front that is scanned there.
-use Prim.Native.Nat.{ℕ, zero, suc, _+_, _-_, _<_, _≤_, zero-le, suc-le-suc}
+use Prim.Native.Nat.{ℕ, suc, _+_, _≤_, zero-le}
 use mathlib.Core.Path.{_≡_, refl, sym, ap, subst, _∙_}
-use mathlib.Core.Bool.{Bool, true, false, cond, not, _&&_, _||_}
-use mathlib.Core.List.{List, [], _∷_, _++_, map}
+use mathlib.Core.Bool.{Bool, true, false, cond, _&&_}
+use mathlib.Core.List.{List, [], _∷_, _++_}
 use mathlib.Core.Logic.{_⊎_, inl, inr}
 use native.Mathlib.Omega.{arith}
 use lib.Dec.{eqb, leb, ltb}
-use lib.ListN.{length, getD, take, drop}
+use lib.ListN.{length, getD, drop}
 use Rattle.std.specs.declared.option.Option.{Option}
 use Rattle.std.specs.declared.option.Option.the-variants.{Some, None}
 use Rattle.std.specs.shelf.Lists.{leading}
-use Rattle.std.proofs.shelf.Lists.{take-append-drop, length-take-le}
-use Rattle.std.proofs.shelf.Tests.{leb-true, eqb-true, eqb-false, and-parts, and-left, or-left, cond-true, cond-false, both-ways}
+use Rattle.std.proofs.shelf.Tests.{leb-true, eqb-true, eqb-false, and-parts, or-left, cond-true, both-ways}
 use Rattle.std.proofs.shelf.Ways.{tells}
 use Rattle.lexer.specs.declared.class.Class.{Class}
 use Rattle.lexer.specs.declared.class.Class.the-variants.{Blank, Letter, Digit, Underscore, Quote, Mark, Stray}
 use Rattle.lexer.specs.declared.kind.Kind.{Kind}
-use Rattle.lexer.specs.Classes.{classOf, isLetter, isDigit}
+use Rattle.lexer.specs.Classes.{classOf, isDigit}
 use Rattle.lexer.specs.Spelling.{spellingOf, keywords, marks, begins, markIn, markAt}
 use Rattle.lexer.specs.Constants.{isHexadecimal, isPlain, escapes, escapeIn, escapeOf}
 use Rattle.lexer.specs.Reading.{isWord, opensHexadecimal}

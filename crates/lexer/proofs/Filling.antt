@@ -1,23 +1,25 @@
 -- The token list while it is filled: its first records and what is still to be read are the whole reading.
 use Prim.Native.Nat.{ℕ, zero, suc, _+_, _-_, _<_, _≤_}
 use mathlib.Core.Path.{_≡_, refl, sym, ap, subst, _∙_}
-use mathlib.Core.Bool.{Bool, true, false}
+use mathlib.Core.Bool.{Bool, true, false, cond}
 use mathlib.Core.List.{List, [], _∷_, _++_}
 use native.Mathlib.Nat.{le-of-suc-le-suc, not-suc-le-zero}
 use native.Mathlib.Omega.{arith}
+use lib.Dec.{ltb}
 use lib.ListN.{length, getD, take, drop, set}
 use Rattle.std.proofs.shelf.Lists.{append-nil, append-assoc, take-more-set, drop-set-lt, drop-drop, length-take-le, take-append-drop}
+use Rattle.std.proofs.shelf.Tests.{ltb-true, ltb-false}
 use Rattle.std.specs.declared.option.Option.{Option}
 use Rattle.std.specs.declared.option.Option.the-variants.{Some, None}
 use Rattle.std.specs.declared.result.Result.{Result}
-use Rattle.std.specs.declared.result.Result.the-variants.{Ok, Err}
+use Rattle.std.specs.declared.result.Result.the-variants.{Ok}
 use Rattle.refusal.specs.declared.reason.Refusal.{Refusal}
 use Rattle.refusal.specs.Told.{Told, accepted, refused}
 use Rattle.lexer.specs.declared.kind.Token.{Token}
 use Rattle.lexer.specs.declared.reader.State.{State}
 use Rattle.lexer.specs.declared.reader.State.the-variants.{Code}
-use Rattle.lexer.specs.Reading.{Fault, none, fault, Reading, stopped, preceded, readingFrom, reading, toldOf, written, answerBy, listBy, textOf, textAt}
-use Rattle.lexer.specs.Scans.{ahead, afterNext, Next, lengthsBy}
+use Rattle.lexer.specs.Reading.{Fault, fault, Reading, stopped, readingFrom, reading, toldOf, written, answerBy, listBy, textOf, textAt}
+use Rattle.lexer.specs.Scans.{ahead, afterNext, Next, lengthsBy, storedTold, storedList}
 
 -- tokens before a reading
 abbrev pub prefixed : List Token → Reading → Reading
@@ -103,3 +105,29 @@ pub lengths-accepted : (long short : Bool) (s : List ℕ) (list : List Token) �
 lengths-accepted true short s list e = let z : _≡_ {A = ℕ} 0 1 = cc in absurd (let b : ⊥ = omega arith in b)
 lengths-accepted false true s list e = let z : _≡_ {A = ℕ} 0 1 = cc in absurd (let b : ⊥ = omega arith in b)
 lengths-accepted false false s list e = (refl, refl, refl, refl)
+
+-- what is known of the records after one more token
+
+pub stored-full : (list : List Token) (count : ℕ) (x : Token) (n p : ℕ) → refused n p ≡ storedTold count x → (1024 ≤ count) × _≡_ {A = Told ℕ} (refused n p) (refused 8 (x .place)) × (storedList list count x ≡ list)
+stored-full list count x n p e = go (ltb count 1024) refl e
+  where
+    go : (t : Bool) → ltb count 1024 ≡ t → refused n p ≡ cond t (accepted (count + 1)) (refused 8 (x .place)) → (1024 ≤ count) × _≡_ {A = Told ℕ} (refused n p) (refused 8 (x .place)) × (cond t (set list count x) list ≡ list)
+    go true f e = let z : _≡_ {A = ℕ} 0 1 = cc in absurd (let b : ⊥ = omega arith in b)
+    go false f e = (ltb-false count 1024 f, e, refl)
+
+pub stored-room : (list : List Token) (count : ℕ) (x : Token) (m : ℕ) → accepted m ≡ storedTold count x → (count < 1024) × (m ≡ count + 1) × (storedList list count x ≡ set list count x)
+stored-room list count x m e = go (ltb count 1024) refl e
+  where
+    go : (t : Bool) → ltb count 1024 ≡ t → accepted m ≡ cond t (accepted (count + 1)) (refused 8 (x .place)) → (count < 1024) × (m ≡ count + 1) × (cond t (set list count x) list ≡ set list count x)
+    go true f e = let w : m ≡ count + 1 = cc in (ltb-true count 1024 f, w, refl)
+    go false f e = let z : _≡_ {A = ℕ} 0 1 = cc in absurd (let b : ⊥ = omega arith in b)
+
+-- one turn, in the list and the count that the store left
+pub turn : (s : List ℕ) (list first list′ : List Token) (count count′ at : ℕ) (state : State) (at′ : ℕ) (state′ : State) (x : Token) → Filled s list count at state → drop count list ≡ drop count first → ((room : ℕ) → ahead s at state room ≡ afterNext (Ok (Some x)) s at′ state′ room) → 1024 ≤ length list → accepted count′ ≡ storedTold count x → list′ ≡ storedList list count x → (count′ ≤ 1024) × Filled s list′ count′ at′ state′ × (drop count′ list′ ≡ drop count′ first)
+turn s list first list′ count count′ at state at′ state′ x f g e h told stored =
+    let r = stored-room list count x count′ told in
+    let is : list′ ≡ set list count x = stored ∙ r .2 in (
+      omega (arith, r .0, r .1),
+      subst (λ xs. Filled s xs count′ at′ state′) (sym is) (subst (λ m. Filled s (set list count x) m at′ state′) (sym (r .1)) (filled-more s list count at state at′ state′ x f e (r .0) (omega (arith, r .0)))),
+      ap (drop count′) is ∙ subst (λ m. drop m (set list count x) ≡ drop m first) (sym (r .1)) (rest-more list first count x g),
+    )

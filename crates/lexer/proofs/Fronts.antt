@@ -1,28 +1,26 @@
 -- A token at the front of a rest takes up at least one byte, lies within the rest, and its value is a number of the
 -- language.
-use Prim.Native.Nat.{ℕ, zero, suc, _+_, _-_, _<_, _≤_, zero-le}
+use Prim.Native.Nat.{ℕ, _<_, _≤_, zero-le}
 use mathlib.Core.Path.{_≡_, refl, sym, ap, subst, _∙_}
 use mathlib.Core.Bool.{Bool, true, false, cond, not, _&&_, _||_}
 use mathlib.Core.List.{List, [], _∷_}
-use mathlib.Core.Logic.{_⊎_, inl, inr}
+use mathlib.Core.Logic.{inl, inr}
 use native.Mathlib.Omega.{arith}
 use lib.Dec.{eqb, leb, ltb}
-use lib.ListN.{length, getD, take, drop}
-use Rattle.std.specs.declared.option.Option.{Option}
-use Rattle.std.specs.declared.option.Option.the-variants.{Some, None}
+use lib.ListN.{length, getD, drop}
+use Rattle.std.specs.declared.option.Option.the-variants.{Some}
 use Rattle.std.specs.shelf.Lists.{leading}
 use Rattle.std.proofs.shelf.Lists.{getD-past, length-drop}
 use Rattle.std.proofs.shelf.Sums.{leading-le-length, leading-drop-yes}
-use Rattle.std.proofs.shelf.Tests.{cases-lt, leb-true, eqb-true, and-parts, or-left, or-right, or-cases}
-use Rattle.std.proofs.shelf.Ways.{tells}
+use Rattle.std.proofs.shelf.Tests.{cases-lt, leb-true, eqb-true, and-parts, or-left}
 use Rattle.lexer.specs.declared.class.Class.{Class}
 use Rattle.lexer.specs.declared.class.Class.the-variants.{Blank, Letter, Digit, Underscore, Quote, Mark, Stray}
 use Rattle.lexer.specs.declared.kind.Kind.{Kind}
 use Rattle.lexer.specs.declared.kind.Kind.the-variants.{Number, Character}
 use Rattle.lexer.specs.Classes.{classOf, isBlank, isLetter, isDigit, isMark}
-use Rattle.lexer.specs.Spelling.{spellingOf, marks, begins, markIn, markAt}
-use Rattle.lexer.specs.Constants.{isHexadecimal, valueOf, greatest, isPlain, escapes, escapeIn, escapeOf}
-use Rattle.lexer.specs.Reading.{Front, between, token, wrong, isWord, wordFront, sized, numeral, opensHexadecimal, numberBy, numberFront, escapeFront, characterFront, markFront, tokenFront}
+use Rattle.lexer.specs.Spelling.{spellingOf, marks, begins, markIn}
+use Rattle.lexer.specs.Constants.{isHexadecimal, greatest, isPlain, escapes, escapeIn, escapeOf}
+use Rattle.lexer.specs.Reading.{Front, between, token, wrong, isWord, wordFront, sized, opensHexadecimal, numberBy, numberFront, escapeFront, characterFront, markFront, tokenFront}
 
 abbrev pub Bounded : Front → List ℕ → Type 0
 Bounded (between s k) r = Unit {0}

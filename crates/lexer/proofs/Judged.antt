@@ -1,8 +1,8 @@
 -- The front where a token may begin, judged: it is the longest token there, or the fault that the language has for it.
-use Prim.Native.Nat.{ℕ, zero, suc, _+_, _-_, _<_, _≤_, zero-le, suc-le-suc}
+use Prim.Native.Nat.{ℕ, suc, _+_, _<_, _≤_, zero-le}
 use mathlib.Core.Path.{_≡_, refl, sym, ap, subst, _∙_}
-use mathlib.Core.Bool.{Bool, true, false, cond, not, _&&_, _||_}
-use mathlib.Core.List.{List, [], _∷_, _++_, map}
+use mathlib.Core.Bool.{Bool, true, false, cond, not, _&&_}
+use mathlib.Core.List.{List, [], _∷_}
 use mathlib.Core.Logic.{_⊎_, inl, inr}
 use native.Mathlib.Nat.{zero-add, not-suc-le-zero, le-of-suc-le-suc}
 use native.Mathlib.Omega.{arith}
@@ -15,7 +15,7 @@ use Rattle.std.specs.shelf.Text.{sameBytes}
 use Rattle.std.proofs.shelf.Equals.{sameBytes-decides}
 use Rattle.std.proofs.shelf.Lists.{take-append-drop, length-take-le, getD-take, getD-drop, length-drop}
 use Rattle.std.proofs.shelf.Sums.{leading-le-length}
-use Rattle.std.proofs.shelf.Tests.{leb-true, leb-false, eqb-true, and-parts, or-left, cond-true, both-ways}
+use Rattle.std.proofs.shelf.Tests.{leb-true, leb-false, eqb-true, and-parts, both-ways}
 use Rattle.lexer.specs.declared.class.Class.{Class}
 use Rattle.lexer.specs.declared.class.Class.the-variants.{Blank, Letter, Digit, Underscore, Quote, Mark, Stray}
 use Rattle.lexer.specs.declared.kind.Kind.{Kind}
@@ -26,7 +26,7 @@ use Rattle.lexer.specs.Constants.{isHexadecimal, valueOf, greatest, isPlain, e
 use Rattle.lexer.specs.Reading.{Front, between, token, wrong, isWord, wordFront, sized, opensHexadecimal, numberBy, numberFront, escapeFront, characterFront, markFront, tokenFront}
 use Rattle.lexer.specs.Laws.{Every, Listed, IsToken, name, keyword, mark, decimal, hexadecimal, plain, escape, Longest, NoToken}
 use Rattle.lexer.proofs.Tokens.{each}
-use Rattle.lexer.proofs.Cover.{markReach, escapeReach, characterReach, numberReach, reachBy, reach, covers}
+use Rattle.lexer.proofs.Cover.{markReach, escapeReach, numberReach, reachBy, reach, covers}
 use Rattle.lexer.proofs.Fronts.{stands, run-begins, letter-is, digit-is, letter-word, hexadecimal-digit, hexadecimal-stands, quote-stands, plain-small, begins-fits}
 
 -- what the front says of the rest r

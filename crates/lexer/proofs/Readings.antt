@@ -1,32 +1,27 @@
 -- The reading of a source is the one that the relation allows.
 use Prim.Native.Nat.{ℕ, zero, suc, _+_, _-_, _<_, _≤_, zero-le}
 use mathlib.Core.Path.{_≡_, refl, sym, ap, subst, _∙_}
-use mathlib.Core.Bool.{Bool, true, false, cond, _&&_, _||_}
+use mathlib.Core.Bool.{Bool, true, false, cond, _&&_}
 use mathlib.Core.List.{List, [], _∷_}
 use mathlib.Core.Logic.{_⊎_, inl, inr}
-use native.Mathlib.Nat.{add-zero, add-suc, suc-add, not-suc-le-zero, le-of-suc-le-suc}
+use native.Mathlib.Nat.{add-zero, not-suc-le-zero, le-of-suc-le-suc}
 use native.Mathlib.Numerals.{add-one}
 use native.Mathlib.Omega.{arith}
 use lib.Dec.{eqb}
-use lib.IntN.{pos}
-use lib.ListN.{length, getD, take, drop}
+use lib.ListN.{length, drop}
 use Rattle.std.proofs.shelf.Lists.{length-drop}
 use Rattle.std.proofs.shelf.Tests.{eqb-true, eqb-false, ne-eqb, and-parts, and-left, both-ways}
 use Rattle.lexer.specs.declared.class.Class.{Class}
 use Rattle.lexer.specs.declared.class.Class.the-variants.{Blank, Letter, Digit, Underscore, Quote, Mark, Stray}
-use Rattle.lexer.specs.declared.kind.Kind.{Kind}
-use Rattle.lexer.specs.declared.kind.Kind.the-variants.{Number}
 use Rattle.lexer.specs.declared.kind.Token.{Token}
 use Rattle.lexer.specs.declared.reader.State.{State}
 use Rattle.lexer.specs.declared.reader.State.the-variants.{Code, LineComment, LongComment}
 use Rattle.lexer.specs.Classes.{classOf, isBlank, isLetter, isDigit, isMark}
 use Rattle.lexer.specs.Spelling.{begins}
-use Rattle.lexer.specs.Constants.{greatest}
-use Rattle.lexer.specs.Reading.{Front, between, token, wrong, tokenFront, commentOr, codeFront, front, Fault, none, fault, Reading, stopped, preceded, tokenOf, ended, follow, readingFrom, reading, tokenLimit}
-use Rattle.lexer.specs.Laws.{Longest, NoToken, IsToken, Line, feed, end, more, Long, close, further, Unclosed, Gap, empty, blank, line, long, Begins, Faulty, stray, unclosed, bad-character, too-large, too-many, TokenHere, Stops, Reads, Ordered, Decided}
-use Rattle.lexer.proofs.Ahead.{skipped, plain-front}
+use Rattle.lexer.specs.Reading.{Front, between, token, wrong, tokenFront, commentOr, codeFront, front, Fault, none, fault, Reading, stopped, ended, follow, readingFrom, reading}
+use Rattle.lexer.specs.Laws.{Line, feed, end, more, Long, close, further, Unclosed, Gap, empty, blank, line, long, Begins, stray, unclosed, bad-character, too-large, too-many, Reads}
+use Rattle.lexer.proofs.Ahead.{skipped}
 use Rattle.lexer.proofs.Judged.{Judged, judged, longest-bytes}
-use Rattle.lexer.proofs.Tokens.{same-token}
 
 -- gaps
 

@@ -1,28 +1,25 @@
 -- What a token is, read back from its bytes: it has one kind and one value, and the reader's length for a front is that of the
 -- longest token.
-use Prim.Native.Nat.{ℕ, zero, suc, _+_, _-_, _<_, _≤_, zero-le, suc-le-suc}
+use Prim.Native.Nat.{ℕ}
 use mathlib.Core.Path.{_≡_, refl, sym, ap, subst, _∙_}
-use mathlib.Core.Bool.{Bool, true, false, cond, not, _&&_, _||_}
-use mathlib.Core.List.{List, [], _∷_, _++_, map}
-use mathlib.Core.Logic.{_⊎_, inl, inr}
+use mathlib.Core.Bool.{Bool, true, false, cond}
+use mathlib.Core.List.{List, [], _∷_, map}
+use mathlib.Core.Logic.{inl, inr}
 use native.Mathlib.Omega.{arith}
-use lib.Dec.{eqb, leb, ltb}
-use lib.ListN.{length, getD, take, drop}
+use lib.Dec.{eqb}
+use lib.ListN.{length, getD, drop}
 use Rattle.std.specs.declared.option.Option.{Option}
 use Rattle.std.specs.declared.option.Option.the-variants.{Some, None}
-use Rattle.std.specs.shelf.Lists.{leading}
 use Rattle.std.specs.shelf.Text.{sameBytes}
 use Rattle.std.proofs.shelf.Equals.{sameBytes-decides}
-use Rattle.std.proofs.shelf.Tests.{leb-true, leb-false, eqb-true, eqb-false, ne-eqb, and-parts, and-left, or-left, or-cases, cond-true, cond-false, cases-bool, both-ways}
 use Rattle.std.proofs.shelf.Ways.{tells}
 use Rattle.lexer.specs.declared.class.Class.{Class}
 use Rattle.lexer.specs.declared.class.Class.the-variants.{Blank, Letter, Digit, Underscore, Quote, Mark, Stray}
 use Rattle.lexer.specs.declared.kind.Kind.{Kind}
 use Rattle.lexer.specs.declared.kind.Kind.the-variants.{Name, Number, Character}
-use Rattle.lexer.specs.Classes.{classOf, isBlank, isLetter, isDigit, isMark}
-use Rattle.lexer.specs.Spelling.{spellingOf, keywords, marks, wordKindIn, wordKind, begins, markIn, markAt}
-use Rattle.lexer.specs.Constants.{isHexadecimal, valueOf, greatest, isPlain, escapes, escapeIn, escapeOf}
-use Rattle.lexer.specs.Reading.{isWord, opensHexadecimal}
+use Rattle.lexer.specs.Classes.{classOf, isLetter, isDigit}
+use Rattle.lexer.specs.Spelling.{spellingOf, keywords, marks, wordKindIn, wordKind}
+use Rattle.lexer.specs.Constants.{valueOf, isPlain, escapes, escapeOf}
 use Rattle.lexer.specs.Laws.{Every, Listed, IsToken, name, keyword, mark, decimal, hexadecimal, plain, escape}
 
 -- one computed test over a list says what holds of each listed element

@@ -1,13 +1,12 @@
 -- Whatever a source reads as by the relation is its reading: the reading is walked along the gaps, tokens and fault that the
 -- relation names.
-use Prim.Native.Nat.{ℕ, zero, suc, _+_, _-_, _<_, _≤_, zero-le}
+use Prim.Native.Nat.{ℕ, zero, suc, _+_, _-_, _<_, _≤_}
 use mathlib.Core.Path.{_≡_, refl, sym, ap, subst, _∙_}
-use mathlib.Core.Bool.{Bool, true, false, cond}
+use mathlib.Core.Bool.{false}
 use mathlib.Core.List.{List, [], _∷_}
-use mathlib.Core.Logic.{_⊎_, inl, inr}
+use mathlib.Core.Logic.{inl, inr}
 use native.Mathlib.Nat.{not-suc-le-zero}
 use native.Mathlib.Omega.{arith}
-use lib.IntN.{pos}
 use lib.ListN.{length, getD, take, drop}
 use Rattle.std.proofs.shelf.Lists.{length-drop}
 use Rattle.std.proofs.shelf.Tests.{both-ways}
@@ -21,11 +20,11 @@ use Rattle.lexer.specs.declared.reader.State.the-variants.{Code, LineComment, 
 use Rattle.lexer.specs.Classes.{classOf, isBlank}
 use Rattle.lexer.specs.Spelling.{begins}
 use Rattle.lexer.specs.Constants.{greatest}
-use Rattle.lexer.specs.Reading.{Front, between, token, wrong, tokenFront, commentOr, codeFront, front, Fault, none, fault, Reading, stopped, preceded, tokenOf, readingFrom, reading}
-use Rattle.lexer.specs.Laws.{IsToken, Longest, NoToken, Line, feed, end, more, Long, close, further, Unclosed, Gap, empty, blank, line, long, Begins, Faulty, stray, unclosed, bad-character, too-large, too-many, TokenHere, Stops, Reads, Ordered, Decided}
+use Rattle.lexer.specs.Reading.{Front, between, token, wrong, tokenFront, commentOr, codeFront, front, Fault, none, fault, stopped, preceded, tokenOf, readingFrom, reading}
+use Rattle.lexer.specs.Laws.{IsToken, Longest, NoToken, Line, feed, end, more, Long, close, further, Unclosed, Gap, empty, blank, line, long, Begins, Faulty, stray, unclosed, bad-character, too-large, too-many, Reads, Ordered, Decided}
 use Rattle.lexer.proofs.Ahead.{skipped, blank-front, line-goes-on, long-goes-on}
 use Rattle.lexer.proofs.Judged.{Judged, judged, longest-bytes}
-use Rattle.lexer.proofs.Readings.{HoldsIn, goes, holds, blank-is, blank-class, drop-first}
+use Rattle.lexer.proofs.Readings.{goes, holds, blank-is, blank-class, drop-first}
 use Rattle.lexer.proofs.Tokens.{same-token}
 
 -- the reading at a byte whose front is known

@@ -1,6 +1,6 @@
 -- The class of each byte, by rule.
 use Prim.Native.Nat.{ℕ}
-use mathlib.Core.Bool.{Bool, true, false, cond, _&&_, _||_}
+use mathlib.Core.Bool.{Bool, false, cond, _&&_, _||_}
 use mathlib.Core.List.{List, [], _∷_}
 use lib.Chars.{codes}
 use lib.Dec.{eqb, leb}

@@ -54,6 +54,7 @@ abbrev pub numberBy : Bool → List ℕ → Front
 numberBy true r = numeral isHexadecimal 16 2 r
 numberBy false r = numeral isDigit 10 0 r
 
+-- a number
 abbrev pub numberFront : List ℕ → Front
 numberFront r = numberBy (opensHexadecimal r) r
 
@@ -110,6 +111,7 @@ pub data Fault : Type 0 where
   none : Fault
   fault : (number place : ℕ) → Fault
 
+-- the tokens before the first fault, or all of them, and that fault
 pub record Reading : Type 0 where
   pub tokens : List Token
   pub fault : Fault
@@ -126,7 +128,7 @@ preceded x r = record { tokens = x ∷ r .tokens; fault = r .fault }
 abbrev pub tokenOf : Kind → (place length value : ℕ) → Token
 tokenOf k p n v = record { kind = k; place = p; length = n; value = pos v }
 
--- the end of the source: a long comment is not closed
+-- the end of the source: a long comment that is open there is a fault, at the place where it opened
 abbrev pub ended : State → Reading
 ended Code = stopped none
 ended LineComment = stopped none
@@ -146,10 +148,11 @@ readingFrom [] s more room p = ended s
 readingFrom (b ∷ r) s (suc more) room p = readingFrom r s more room (suc p)
 readingFrom (b ∷ r) s zero room p = follow (front s p (b ∷ r)) room p (λ s′ more room′. readingFrom r s′ more room′ (suc p))
 
--- the most tokens, and the most bytes, of a source
+-- the most tokens of a source
 abbrev pub tokenLimit : ℕ
 tokenLimit = 1024
 
+-- the most bytes of a source
 abbrev pub sourceLimit : ℕ
 sourceLimit = 16384
 
@@ -174,6 +177,7 @@ answerBy true short s = refused 1 0
 answerBy false true s = refused 2 0
 answerBy false false s = toldOf (reading s .tokens) (reading s .fault)
 
+-- the answer for a source and a token list of so many records
 abbrev pub answer : List ℕ → ℕ → Told ℕ
 answer s room = answerBy (ltb sourceLimit (length s)) (ltb room tokenLimit) s
 
@@ -183,6 +187,7 @@ listBy true short s list = list
 listBy false true s list = list
 listBy false false s list = written (reading s .tokens) list
 
+-- the token list after a source is read into it
 abbrev pub listAfter : List ℕ → List Token → List Token
 listAfter s list = listBy (ltb sourceLimit (length s)) (ltb (length list) tokenLimit) s list
 

@@ -1,10 +1,10 @@
 -- What the inner functions answer, in the words of the reading.
 use Prim.Native.Nat.{ℕ, zero, suc, _+_, _<_, _≤_}
 use mathlib.Core.Path.{_≡_}
-use mathlib.Core.Bool.{Bool, true, false}
+use mathlib.Core.Bool.{Bool, true, false, cond}
 use mathlib.Core.List.{List}
 use lib.Dec.{ltb}
-use lib.ListN.{length, getD, drop}
+use lib.ListN.{length, getD, set, drop}
 use Rattle.std.specs.declared.result.Result.{Result}
 use Rattle.std.specs.declared.result.Result.the-variants.{Ok, Err}
 use Rattle.std.specs.declared.option.Option.{Option}
@@ -17,13 +17,13 @@ use Rattle.refusal.specs.Told.{Told, accepted, refused, numberOf}
 use Rattle.lexer.specs.declared.kind.Kind.{Kind}
 use Rattle.lexer.specs.declared.kind.Token.{Token}
 use Rattle.lexer.specs.declared.reader.State.{State}
-use Rattle.lexer.specs.declared.reader.State.the-variants.{Code, LineComment, LongComment}
+use Rattle.lexer.specs.declared.reader.State.the-variants.{Code}
 use Rattle.lexer.specs.declared.scan.Run.{Run}
 use Rattle.lexer.specs.declared.scan.Run.the-variants.{Word, Decimal, Hexadecimal}
 use Rattle.lexer.specs.declared.scan.Scanned.{Scanned}
 use Rattle.lexer.specs.Classes.{classOf, isDigit}
 use Rattle.lexer.specs.Constants.{isHexadecimal}
-use Rattle.lexer.specs.Reading.{Front, between, token, wrong, isWord, front, tokenFront, none, fault, Reading, stopped, preceded, tokenOf, readingFrom, tokenLimit, sourceLimit}
+use Rattle.lexer.specs.Reading.{Front, token, wrong, isWord, front, tokenFront, none, fault, Reading, stopped, preceded, tokenOf, readingFrom, tokenLimit, sourceLimit}
 
 -- the bytes of a run
 abbrev pub inRun : Run → ℕ → Bool
@@ -73,5 +73,14 @@ lengthsBy true short = refused 1 0
 lengthsBy false true = refused 2 0
 lengthsBy false false = accepted tt
 
+-- the same, by the lengths
 abbrev pub lengthsTold : ℕ → ℕ → Told (Unit {0})
 lengthsTold bytes records = lengthsBy (ltb sourceLimit bytes) (ltb records tokenLimit)
+
+-- one more token, if there is room for it
+abbrev pub storedTold : ℕ → Token → Told ℕ
+storedTold count x = cond (ltb count tokenLimit) (accepted (count + 1)) (refused 8 (x .place))
+
+-- the token list after that
+abbrev pub storedList : List Token → ℕ → Token → List Token
+storedList list count x = cond (ltb count tokenLimit) (set list count x) list

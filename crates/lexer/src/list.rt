@@ -6,8 +6,8 @@ ghost use lib.ListN.{length};
 ghost use Rattle.std.specs.Options.{mapped};
 ghost use Rattle.refusal.specs.Told.{told};
 ghost use Rattle.lexer.specs.Laws.{Decided};
-ghost use Rattle.lexer.specs.Scans.{lengthsTold};
-ghost use Rattle.lexer.specs.Reading.{reading, toldOf, written, answer, listAfter, textAt};
+ghost use Rattle.lexer.specs.Scans.{lengthsTold, storedTold, storedList};
+ghost use Rattle.lexer.specs.Reading.{reading, toldOf, written, answer, listAfter, textOf, textAt};
 use crate::kind::Token;
 use crate::reader::Reader;
 use refusal::Reason;
@@ -38,6 +38,22 @@ fn check_lengths(bytes: usize, records: usize) -> Result<(), Refusal>
     Ok(())
 }
 
+// Puts a token after the first `count` records, and answers how many they are then.
+fn store(tokens: &mut [Token], count: usize, token: Token) -> Result<usize, Refusal>
+    requires { ⌜ 1024 ≤ length (now tokens) ⌝ }
+    ensures answer { λ r. ⌜ told r ≡ storedTold count token ⌝ }
+    ensures list { λ _. ⌜ now (tokens .exit) ≡ storedList (now (tokens .entry)) count token ⌝ }
+{
+    if count >= TOKEN_LIMIT {
+        return Err(Refusal {
+            reason: Reason::TooManyTokens,
+            place: token.place,
+        });
+    }
+    tokens[count] = token;
+    Ok(count + 1)
+}
+
 // Reads the tokens of a source that is not too long into a list that is long enough.
 fn fill(source: &[u8], tokens: &mut [Token]) -> Result<usize, Refusal>
     requires short { ⌜ length (now source) ≤ 16384 ⌝ }
@@ -48,14 +64,7 @@ fn fill(source: &[u8], tokens: &mut [Token]) -> Result<usize, Refusal>
     let mut reader = Reader::new(source);
     let mut count = 0;
     'tokens: while let Some(token) = reader.next()? {
-        if count == TOKEN_LIMIT {
-            return Err(Refusal {
-                reason: Reason::TooManyTokens,
-                place: token.place,
-            });
-        }
-        tokens[count] = token;
-        count += 1;
+        count = store(tokens, count, token)?;
     }
     Ok(count)
 }
@@ -71,6 +80,18 @@ pub fn read(source: &[u8], tokens: &mut [Token]) -> Result<usize, Refusal>
     fill(source, tokens)
 }
 
+// The part of the source that a token names, if it exists.
+fn part<'a>(source: &'a [u8], token: Token) -> Option<&'a [u8]>
+    ensures { λ r. ⌜ mapped behind r ≡ textOf (now (source .entry)) token ⌝ }
+{
+    let start = token.place as usize;
+    let end = start + token.length as usize;
+    if end > source.len() {
+        return None;
+    }
+    Some(&source[start..end])
+}
+
 // The part of the source that token k names, or nothing if there is no such record or part.
 pub fn text<'a>(source: &'a [u8], tokens: &[Token], k: usize) -> Option<&'a [u8]>
     ensures { λ r. ⌜ mapped behind r ≡ textAt (now (source .entry)) (now (tokens .entry)) k ⌝ }
@@ -78,10 +99,5 @@ pub fn text<'a>(source: &'a [u8], tokens: &[Token], k: usize) -> Option<&'a [u8]
     if k >= tokens.len() {
         return None;
     }
-    let start = tokens[k].place as usize;
-    let end = start + tokens[k].length as usize;
-    if end > source.len() {
-        return None;
-    }
-    Some(&source[start..end])
+    part(source, tokens[k])
 }

@@ -19,6 +19,7 @@ use Rattle.machine.specs.Steps.{State, Next, go, stop, wait, break, step}
 use Rattle.machine.specs.Runs.{Ran, run, Kept, upTo, begun, Call, endAs, placeAs, overAs, keptAt, ran, called, callFrom, call, Said, says, Turn, on, off, closed, turned, turnFrom, turn}
 use Rattle.machine.specs.Views.{tops, stateOf, howOf, nextOf, overOf, turnOf}
 use Rattle.machine.proofs.Falls.{Falls, step-falls}
+use Rattle.machine.proofs.Looping.{Stopped}
 use Rattle.machine.proofs.Resuming.{run-counted}
 
 -- what a call answers and leaves, by how its run came out
@@ -61,13 +62,7 @@ falls-left code u v Breaks h = h .1
 pub step-within : (code : List Instruction) (u v : State) (f : Flow) → nextOf f v ≡ step code u → v .left ≤ u .left
 step-within code u v f e = falls-left code u v f (subst (Falls code u) (sym e) (step-falls code u))
 
--- what does not go on, and the instructions that it counts
-abbrev pub Stopped : Flow → Type 0
-Stopped Goes = ⊥
-Stopped Waits = Unit {0}
-Stopped (Ends e) = Unit {0}
-Stopped Breaks = Unit {0}
-
+-- how many instructions a step counts
 abbrev pub tally : Flow → ℕ
 tally Goes = 1
 tally Waits = 0

@@ -4,6 +4,7 @@ pub mod Landing
 pub mod Stepping
 pub mod Falls
 pub mod Equations
+pub mod Working
 pub mod Resuming
 pub mod Looping
 pub mod Calling

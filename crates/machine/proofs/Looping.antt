@@ -1,6 +1,6 @@
 -- The loop of a run: what it keeps from turn to turn.
 use Prim.Native.Nat.{ℕ, _+_, _-_, _<_, _≤_, min}
-use mathlib.Core.Path.{_≡_, refl, sym, ap, _∙_}
+use mathlib.Core.Path.{_≡_, refl, sym, ap, subst, _∙_}
 use mathlib.Core.List.{List}
 use native.Mathlib.Omega.{arith}
 use native.Mathlib.Nat.{add-zero, zero-add}
@@ -9,15 +9,20 @@ use Rattle.std.specs.declared.option.Option.{Option}
 use Rattle.std.specs.declared.option.Option.the-variants.{Some, None}
 use Rattle.std.specs.shelf.Maps.{nth}
 use Rattle.std.proofs.shelf.Maps.{nth-past}
+use Rattle.boards.specs.Meaning.{Meaning}
+use Rattle.machine.specs.declared.cursor.Cursor.{Cursor}
 use Rattle.machine.specs.declared.flow.Flow.{Flow}
 use Rattle.machine.specs.declared.flow.Flow.the-variants.{Goes, Waits, Ends, Breaks}
 use Rattle.machine.specs.declared.instruction.Instruction.{Instruction}
-use Rattle.machine.specs.Endings.{End, endOf}
-use Rattle.machine.specs.Operations.{How, goes, ends, waits, breaks}
+use Rattle.machine.specs.declared.memory.Memory.{Memory}
+use Rattle.machine.specs.Endings.{End}
+use Rattle.machine.specs.Operations.{Store, How, ends, waits, breaks}
 use Rattle.machine.specs.Steps.{State, Next, go, stop, wait, break, fetched, step}
 use Rattle.machine.specs.Runs.{Ran, ran, later, run, upTo}
-use Rattle.machine.specs.Views.{howOf, nextOf}
+use Rattle.machine.specs.Views.{stateOf, nextOf}
+use Rattle.machine.proofs.Tops.{length-tops}
 use Rattle.machine.proofs.Falls.{inside}
+use Rattle.machine.proofs.Working.{Same, Still, step-still}
 use Rattle.machine.proofs.Equations.{run-go, run-stop, run-wait, run-break}
 
 -- the run from the start is the run from here, after the instructions counted so far:
@@ -45,6 +50,28 @@ inside-go code u v e = fetched-inside code u (λ f. let z : _≡_ {A = ℕ} 0 1 
 
 pub inside-stop : (code : List Instruction) (u v : State) (d : End) → step code u ≡ stop d v → u .position < length code
 inside-stop code u v d e = fetched-inside code u (λ f. let z : _≡_ {A = ℕ} 0 1 = cc in omega arith)
+
+-- what does not go on
+abbrev pub Stopped : Flow → Type 0
+Stopped Goes = ⊥
+Stopped Waits = Unit {0}
+Stopped (Ends e) = Unit {0}
+Stopped Breaks = Unit {0}
+
+still-same : (u v : State) (f : Flow) → Stopped f → Still u (nextOf f v) → Same u v
+still-same u v Goes h s = absurd h
+still-same u v Waits h s = s
+still-same u v (Ends e) h s = s
+still-same u v Breaks h s = s
+
+-- after a step that does not go on the cursor is the one before it
+pub same-cursor : (code : List Instruction) (m n : Memory) (from to : Cursor) (b c : Meaning) (f : Flow)
+    → nextOf f (stateOf n to c) ≡ step code (stateOf m from b) → Stopped f → stateOf n from c ≡ stateOf n to c
+same-cursor code m n from to b c f e h =
+    let s = still-same (stateOf m from b) (stateOf n to c) f h (subst (Still (stateOf m from b)) (sym e) (step-still code (stateOf m from b))) in
+    let high : to .height ≡ from .height
+    = sym (length-tops (n .values) (to .height)) ∙ ap (λ (x : Store). length (x .stack)) (s .store) ∙ length-tops (m .values) (from .height) in
+    rw (high, s .position, s .left)
 
 module _ (code : List Instruction) (before : ℕ) (first : State) where
   pub begins : (u : State) → first ≡ u → (start counted : ℕ) → start ≡ u .position → counted ≡ before → before ≤ 18446744073709551615

@@ -8,104 +8,23 @@ use native.Mathlib.Nat.{add-assoc, zero-add, suc-add, add-mul, one-mul}
 use lib.IntN.{ℤ, pos, negsuc}
 use lib.Dec.{ltb}
 use lib.ListN.{length}
-use mir.Syntax.{w32}
 use borrow.Author.Tests.{ltb-true, ltb-false}
 use Rattle.std.specs.declared.option.Option.{Option}
 use Rattle.std.specs.declared.option.Option.the-variants.{Some, None}
 use Rattle.std.specs.shelf.Maps.{nth}
-use Rattle.refusal.specs.Told.{Told, accepted, refused}
-use Rattle.boards.specs.Meaning.{Meaning, zoneAnswer, reportAnswer}
-use Rattle.ints.specs.Arith.{isZero, compute}
-use Rattle.ints.specs.declared.operator.Operator.{Operator}
-use Rattle.ints.specs.declared.operator.Unary.{Unary}
+use Rattle.boards.specs.Meaning.{Meaning}
+use Rattle.ints.specs.Arith.{isZero}
 use Rattle.machine.specs.declared.instruction.Instruction.{Instruction}
-use Rattle.machine.specs.Endings.{End, broken}
-use Rattle.machine.specs.Codes.{Plain, push, load, store, discard, binary, unary, give, Query, zone, columns, rows, report, Operation, plain, ask, jump, jumpIfZero, tick, unknown, operationOf, mayLand, placeAt}
-use Rattle.machine.specs.Operations.{Store, How, goes, ends, waits, breaks, Did, fault, pushed, loaded, storedTop, stored, discarded, computed, combined, turned, given, exec, zoned, zoneOf, filed, reportOf, answer}
+use Rattle.machine.specs.Endings.{End, waiting, broken}
+use Rattle.machine.specs.Codes.{Operation, plain, ask, jump, jumpIfZero, tick, unknown, operationOf, mayLand, placeAt}
+use Rattle.machine.specs.Operations.{Store, How, goes, ends, waits, breaks, exec, answer}
 use Rattle.machine.specs.Steps.{State, at, Next, go, stop, wait, break, goTo, moved, jumped, branched, ticked, performed, fetched, step}
 use Rattle.machine.specs.Runs.{Ran, ran, later, onward, Runs, steps, run, Over, Kept, fresh, upTo, begun, Call, overAs, endAs, placeAs, keptAt, called, again, callFrom, call}
 use Rattle.machine.specs.Runs.Runs.{by-step, by-stop, by-wait, by-break}
-use Rattle.machine.specs.Laws.{Resumes, Bounded, Stays}
+use Rattle.machine.specs.Laws.{Waits, Resumes, Bounded, Stays}
 use Rattle.machine.proofs.Falls.{rest, rest-least, rest-most, Falls, step-falls}
-use Rattle.machine.proofs.Equations.{run-go, run-runs, runs-one}
-
--- no operation waits
-abbrev Works : How → Type 0
-Works goes = Unit {0}
-Works (ends e) = Unit {0}
-Works waits = ⊥
-Works breaks = Unit {0}
-
-cond-works : (t : Bool) (d e : Did) → Works (d .how) → Works (e .how) → Works (cond t d e .how)
-cond-works true d e p q = p
-cond-works false d e p q = q
-
-pushed-works : (v : ℤ) (m : Store) → Works (pushed v m .how)
-pushed-works v m = cond-works (ltb (length (m .stack)) 256) _ _ tt tt
-
-loaded-works : (a : ℤ) (m : Store) → Works (loaded a m .how)
-loaded-works (pos k) m = cond-works (ltb k 64) _ (fault m) (pushed-works _ m) tt
-loaded-works (negsuc k) m = tt
-
-top-works : (k : ℕ) (s : List ℤ) (m : Store) → Works (storedTop k s m .how)
-top-works k [] m = tt
-top-works k (v ∷ s) m = tt
-
-stored-works : (a : ℤ) (m : Store) → Works (stored a m .how)
-stored-works (pos k) m = cond-works (ltb k 64) _ (fault m) (top-works k (m .stack) m) tt
-stored-works (negsuc k) m = tt
-
-discarded-works : (s : List ℤ) (m : Store) → Works (discarded s m .how)
-discarded-works [] m = tt
-discarded-works (v ∷ s) m = tt
-
-computed-works : (o : Option ℤ) (s : List ℤ) (m : Store) → Works (computed o s m .how)
-computed-works None s m = tt
-computed-works (Some v) s m = tt
-
-combined-works : (o : Operator) (s : List ℤ) (m : Store) → Works (combined o s m .how)
-combined-works o [] m = tt
-combined-works o (r ∷ []) m = tt
-combined-works o (r ∷ (l ∷ s)) m = computed-works (compute w32 o l r) s m
-
-turned-works : (u : Unary) (s : List ℤ) (m : Store) → Works (turned u s m .how)
-turned-works u [] m = tt
-turned-works u (v ∷ s) m = tt
-
-given-works : (s : List ℤ) (m : Store) → Works (given s m .how)
-given-works [] m = tt
-given-works (v ∷ s) m = tt
-
-exec-works : (o : Plain) (m : Store) → Works (exec o m .how)
-exec-works (push v) m = pushed-works v m
-exec-works (load a) m = loaded-works a m
-exec-works (store a) m = stored-works a m
-exec-works discard m = discarded-works (m .stack) m
-exec-works (binary o) m = combined-works o (m .stack) m
-exec-works (unary u) m = turned-works u (m .stack) m
-exec-works give m = given-works (m .stack) m
-
-zoned-works : (t : Told ℤ) (s : List ℤ) (m : Store) → Works (zoned t s m .how)
-zoned-works (accepted v) s m = tt
-zoned-works (refused n p) s m = tt
-
-zone-works : (s : List ℤ) (m : Store) (b : Meaning) → Works (zoneOf s m b .how)
-zone-works [] m b = tt
-zone-works (i ∷ s) m b = zoned-works (zoneAnswer b i) s m
-
-filed-works : (t : Told (Unit {0})) (s : List ℤ) (m : Store) → Works (filed t s m .how)
-filed-works (accepted v) s m = tt
-filed-works (refused n p) s m = tt
-
-report-works : (s : List ℤ) (m : Store) (b : Meaning) → Works (reportOf s m b .did .how)
-report-works [] m b = tt
-report-works (v ∷ s) m b = filed-works (reportAnswer b) s m
-
-answer-works : (q : Query) (m : Store) (b : Meaning) → Works (answer q m b .did .how)
-answer-works zone m b = zone-works (m .stack) m b
-answer-works columns m b = pushed-works _ m
-answer-works rows m b = pushed-works _ m
-answer-works report m b = report-works (m .stack) m b
+use Rattle.machine.proofs.Equations.{run-go, run-runs}
+use Rattle.machine.proofs.Working.{WorksAs, exec-works, answer-works}
 
 -- a state with k more ticks
 abbrev pub granted : ℕ → State → State
@@ -114,7 +33,7 @@ granted k u = at (u .store) (u .position) (u .left + k) (u .board)
 -- a step with k more ticks: the same, unless it waited
 abbrev Shifts : ℕ → State → Next → Next → Type 0
 Shifts k u (go v) y = y ≡ go (granted k v)
-Shifts k u (stop e v) y = Unit {0}
+Shifts k u (stop e v) y = e .number ≡ 1 → ⊥
 Shifts k u (wait v) y = (v ≡ u) × (u .left ≡ 0)
 Shifts k u (break v) y = Unit {0}
 
@@ -123,9 +42,9 @@ module _ (k : ℕ) (code : List Instruction) (u : State) where
   cond-shifts true p q x y a b = a
   cond-shifts false p q x y a b = b
 
-  moved-shifts : (h : How) (m : Store) (b : Meaning) → Works h → Shifts k u (moved h u m b) (moved h (granted k u) m b)
+  moved-shifts : (h : How) (m : Store) (b : Meaning) → WorksAs h (u .store) m → Shifts k u (moved h u m b) (moved h (granted k u) m b)
   moved-shifts goes m b w = refl
-  moved-shifts (ends e) m b w = tt
+  moved-shifts (ends e) m b w = w .0
   moved-shifts waits m b w = absurd w
   moved-shifts breaks m b w = tt
 
@@ -180,17 +99,34 @@ waited-here code k u v r e s = rw s (
       goes-on = rw (w .0) (ap (λ c. ran (run code (granted k u) .how) (run code (granted k u) .state) c) (sym (zero-add (run code (granted k u) .carried))));
     })
 
-clash : {X : Type 0} (h : How) (r : Ran) → r .how ≡ waits → r .how ≡ h → Works h → X
-clash goes r p q w = let z : _≡_ {A = ℕ} 0 1 = cc in let b : ⊥ = omega arith in absurd b
-clash (ends e) r p q w = let z : _≡_ {A = ℕ} 0 1 = cc in let b : ⊥ = omega arith in absurd b
-clash waits r p q w = absurd w
-clash breaks r p q w = let z : _≡_ {A = ℕ} 0 1 = cc in let b : ⊥ = omega arith in absurd b
+ends-clash : {X : Type 0} (d : End) (r : Ran) → r .how ≡ waits → r .how ≡ ends d → X
+ends-clash d r p q = let z : _≡_ {A = ℕ} 0 1 = cc in let b : ⊥ = omega arith in absurd b
+
+breaks-clash : {X : Type 0} (r : Ran) → r .how ≡ waits → r .how ≡ breaks → X
+breaks-clash r p q = let z : _≡_ {A = ℕ} 0 1 = cc in let b : ⊥ = omega arith in absurd b
 
 pub waited : {code : List Instruction} {u : State} {r : Ran} (k : ℕ) → Runs code u r → r .how ≡ waits → Waited code k u r
 waited {code} {u} {r} k (by-step {v = v} {q = q} e t s) h = waited-step code k u v r q e (waited k t (sym (ap (λ (x : Ran). x .how) s) ∙ h)) s
-waited {code} {u} {r} k (by-stop {e = d} e s) h = clash (ends d) r h (ap (λ (x : Ran). x .how) s) tt
+waited {code} {u} {r} k (by-stop {e = d} e s) h = ends-clash d r h (ap (λ (x : Ran). x .how) s)
 waited {code} {u} {r} k (by-wait {v = v} e s) h = waited-here code k u v r e s
-waited {code} {u} {r} k (by-break e s) h = clash breaks r h (ap (λ (x : Ran). x .how) s) tt
+waited {code} {u} {r} k (by-break e s) h = breaks-clash r h (ap (λ (x : Ran). x .how) s)
+
+-- what ended a run did not end it as waiting
+abbrev Told : How → Type 0
+Told goes = Unit {0}
+Told (ends e) = e .number ≡ 1 → ⊥
+Told waits = Unit {0}
+Told breaks = Unit {0}
+
+told-as : (r : Ran) (h : How) → r .how ≡ h → Told h → Told (r .how)
+told-as r h e t = subst Told (sym e) t
+
+told : {code : List Instruction} {u : State} {r : Ran} → Runs code u r → Told (r .how)
+told {r = r} (by-step {q = q} e t s) = told-as r (q .how) (ap (λ (x : Ran). x .how) s) (told t)
+told {code} {u} {r} (by-stop {e = d} e s) =
+    told-as r (ends d) (ap (λ (x : Ran). x .how) s) (subst (λ (x : Next). Shifts 0 u x (step code (granted 0 u))) e (step-shifts 0 code u))
+told {r = r} (by-wait e s) = told-as r waits (ap (λ (x : Ran). x .how) s) tt
+told {r = r} (by-break e s) = told-as r breaks (ap (λ (x : Ran). x .how) s) tt
 
 -- the count of a run, and that its ticks are only spent
 pub record Counted (code : List Instruction) (u : State) (r : Ran) : Type 0 where
@@ -232,6 +168,28 @@ over-none goes code p e = let z : _≡_ {A = ℕ} 0 1 = cc in let b : ⊥ = omeg
 over-none (ends d) code p e = let z : _≡_ {A = ℕ} 0 1 = cc in let b : ⊥ = omega arith in absurd b
 over-none waits code p e = refl
 over-none breaks code p e = let z : _≡_ {A = ℕ} 0 1 = cc in let b : ⊥ = omega arith in absurd b
+
+open-by : (h : How) (code : List Instruction) (p : ℕ) → Told h → endAs h ≡ waiting → overAs h code p ≡ None
+open-by goes code p t e = let z : _≡_ {A = ℕ} 4 1 = ap (λ (d : End). d .number) e in let b : ⊥ = omega arith in absurd b
+open-by (ends d) code p t e = absurd (t (ap (λ (x : End). x .number) e))
+open-by waits code p t e = refl
+open-by breaks code p t e = let z : _≡_ {A = ℕ} 4 1 = ap (λ (d : End). d .number) e in let b : ⊥ = omega arith in absurd b
+
+open-from : (o : Option Over) (code : List Instruction) (k : Kept) (b : Meaning) (ticks : ℕ) → o ≡ None
+    → callFrom o code k b ticks .end ≡ waiting → callFrom o code k b ticks .kept .over ≡ None
+open-from (Some o) code k b ticks n e = let z : _≡_ {A = ℕ} 0 1 = cc in let x : ⊥ = omega arith in absurd x
+open-from None code k b ticks n e = open-by (run code (begun k b ticks) .how) code (run code (begun k b ticks) .state .position) (told (run-runs code (begun k b ticks))) e
+
+waiting-from : (o : Option Over) (code : List Instruction) (k : Kept) (b : Meaning) (ticks : ℕ) → k .over ≡ o
+    → callFrom o code k b ticks .kept .over ≡ None → callFrom o code k b ticks .end ≡ waiting
+waiting-from (Some o) code k b ticks n e = let z : _≡_ {A = ℕ} 0 1 = cc in let x : ⊥ = omega arith in absurd x
+waiting-from None code k b ticks n e = ap endAs (over-none (run code (begun k b ticks) .how) code (run code (begun k b ticks) .state .position) e)
+
+pub waits-or-over : Waits
+waits-or-over = record {
+  is-open = λ code k b ticks n e. open-from (k .over) code k b ticks n e;
+  is-waiting = λ code k b ticks e. waiting-from (k .over) code k b ticks refl e;
+}
 
 -- a call whose numbers are given
 abbrev with : ℕ → ℕ → List Instruction → Ran → Call

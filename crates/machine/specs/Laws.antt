@@ -6,6 +6,7 @@ use lib.ListN.{length}
 use Rattle.std.specs.declared.option.Option.the-variants.{Some, None}
 use Rattle.boards.specs.Meaning.{Meaning}
 use Rattle.machine.specs.declared.instruction.Instruction.{Instruction}
+use Rattle.machine.specs.Endings.{waiting}
 use Rattle.machine.specs.Steps.{State}
 use Rattle.machine.specs.Runs.{Ran, Runs, run, Kept, Over, fresh, call}
 
@@ -13,6 +14,11 @@ use Rattle.machine.specs.Runs.{Ran, Runs, run, Kept, Over, fresh, call}
 pub record Ends : Type 0 where
   pub some : (code : List Instruction) (u : State) → Runs code u (run code u)
   pub one : (code : List Instruction) (u : State) (r : Ran) → Runs code u r → r ≡ run code u
+
+-- a run that was not over waits exactly where it still is not
+pub record Waits : Type 0 where
+  pub is-open : (code : List Instruction) (k : Kept) (b : Meaning) (ticks : ℕ) → k .over ≡ None → call code k b ticks .end ≡ waiting → call code k b ticks .kept .over ≡ None
+  pub is-waiting : (code : List Instruction) (k : Kept) (b : Meaning) (ticks : ℕ) → call code k b ticks .kept .over ≡ None → call code k b ticks .end ≡ waiting
 
 -- a run that is not over after its ticks, given more, is the run with all of them from the start
 abbrev pub Resumes : Type 0

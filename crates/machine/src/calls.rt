@@ -2,7 +2,7 @@
 ghost use mathlib.Core.Path.{_≡_};
 ghost use lib.ListN.{take};
 ghost use Rattle.machine.specs.Runs.{fresh, call, says, turn};
-ghost use Rattle.machine.specs.Laws.{Ends, Resumes, Bounded, Stays};
+ghost use Rattle.machine.specs.Laws.{Ends, Waits, Resumes, Bounded, Stays};
 ghost use Rattle.machine.specs.Views.{keeps, saidOf, turnOf};
 use crate::answer::Answer;
 use crate::answer::Step;
@@ -53,6 +53,7 @@ impl Machine {
         ensures after { λ _. ⌜ keeps (now (self .exit)) ≡ call (take n (now (code .entry))) (keeps (now (self .entry))) (meaning (now (board .entry))) ticks .kept ⌝ }
         ensures board { λ _. ⌜ meaning (now (board .exit)) ≡ call (take n (now (code .entry))) (keeps (now (self .entry))) (meaning (now (board .entry))) ticks .board ⌝ }
         ensures ends { λ _. ⌜ Ends ⌝ }
+        ensures waits { λ _. ⌜ Waits ⌝ }
         ensures resumes { λ _. ⌜ Resumes ⌝ }
         ensures stays { λ _. ⌜ Stays ⌝ }
     {

@@ -44,19 +44,28 @@ impl Memory {
                     }
                     at = moved.at;
                 }
-                Flow::Ends(_) => {
+                // An instruction that does not go on leaves the cursor as it was.
+                Flow::Ends(ending) => {
                     let counted = counted.saturating_add((position - start) as u64 + 1);
                     return Halted {
-                        flow: moved.flow,
-                        at: moved.at,
+                        flow: Flow::Ends(ending),
+                        at,
                         counted,
                     };
                 }
-                Flow::Waits | Flow::Breaks => {
+                Flow::Waits => {
                     let counted = counted.saturating_add((position - start) as u64);
                     return Halted {
-                        flow: moved.flow,
-                        at: moved.at,
+                        flow: Flow::Waits,
+                        at,
+                        counted,
+                    };
+                }
+                Flow::Breaks => {
+                    let counted = counted.saturating_add((position - start) as u64);
+                    return Halted {
+                        flow: Flow::Breaks,
+                        at,
                         counted,
                     };
                 }

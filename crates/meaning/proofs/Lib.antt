@@ -4,3 +4,14 @@ pub mod Erased
 pub mod Fits
 pub mod Sound
 pub mod Samples
+pub mod Tokens
+pub mod Stack
+pub mod Parsed
+pub mod Spine
+pub mod Builds
+pub mod Moves
+pub mod Once
+pub mod Judge
+pub mod Least
+pub mod Judged
+pub mod Verdicts

@@ -52,7 +52,7 @@ wraps-script = plain (cons (return 11 (binary Add 28 (num 2147483647 18) (num 1 
 
 wraps-reads : Reads (codes "int main(){return 2147483647+1;}") wraps-script
 unfolding reading-opened
-wraps-reads = record { whole = refl; script = record { reads = record { grammatical = omega arith; lexemes = refl }; shallow = omega arith } }
+wraps-reads = record { short = omega arith; whole = refl; script = record { reads = record { grammatical = omega arith; lexemes = refl }; shallow = omega arith } }
 
 wraps-checks : checkScript wraps-script ≡ accepted tt
 unfolding check-opened
@@ -70,7 +70,7 @@ divides-script = plain (cons (return 11 (binary Divide 19 (num 1 18) (num 0 20))
 
 divides-reads : Reads (codes "int main(){return 1/0;}") divides-script
 unfolding reading-opened
-divides-reads = record { whole = refl; script = record { reads = record { grammatical = omega arith; lexemes = refl }; shallow = omega arith } }
+divides-reads = record { short = omega arith; whole = refl; script = record { reads = record { grammatical = omega arith; lexemes = refl }; shallow = omega arith } }
 
 divides-checks : checkScript divides-script ≡ accepted tt
 unfolding check-opened
@@ -88,7 +88,7 @@ waits-script = plain (cons (while 11 (16, 21) (constant (truth true 17)) (block 
 
 waits-reads : Reads (codes "int main(){while(true){}}") waits-script
 unfolding reading-opened
-waits-reads = record { whole = refl; script = record { reads = record { grammatical = omega arith; lexemes = refl }; shallow = omega arith } }
+waits-reads = record { short = omega arith; whole = refl; script = record { reads = record { grammatical = omega arith; lexemes = refl }; shallow = omega arith } }
 
 waits-checks : checkScript waits-script ≡ accepted tt
 unfolding check-opened
@@ -106,7 +106,7 @@ twice-script = plain (cons (define int (11, 16, 18) (name (codes "i") 15) (num 1
 
 twice-reads : Reads (codes "int main(){int i=1;int i=2;}") twice-script
 unfolding reading-opened
-twice-reads = record { whole = refl; script = record { reads = record { grammatical = omega arith; lexemes = refl }; shallow = omega arith } }
+twice-reads = record { short = omega arith; whole = refl; script = record { reads = record { grammatical = omega arith; lexemes = refl }; shallow = omega arith } }
 
 twice-checks : checkScript twice-script ≡ refused 12 23
 unfolding check-opened
@@ -126,7 +126,7 @@ outer-script = record {
 
 outer-reads : Reads (codes "int i=2;int main(){int i=i;return i;}") outer-script
 unfolding reading-opened
-outer-reads = record { whole = refl; script = record { reads = record { grammatical = omega arith; lexemes = refl }; shallow = omega arith } }
+outer-reads = record { short = omega arith; whole = refl; script = record { reads = record { grammatical = omega arith; lexemes = refl }; shallow = omega arith } }
 
 outer-checks : checkScript outer-script ≡ accepted tt
 unfolding check-opened
@@ -144,7 +144,7 @@ mixed-script = plain (cons (return 11 (binary Add 19 (num 1 18) (constant (truth
 
 mixed-reads : Reads (codes "int main(){return 1+true;}") mixed-script
 unfolding reading-opened
-mixed-reads = record { whole = refl; script = record { reads = record { grammatical = omega arith; lexemes = refl }; shallow = omega arith } }
+mixed-reads = record { short = omega arith; whole = refl; script = record { reads = record { grammatical = omega arith; lexemes = refl }; shallow = omega arith } }
 
 mixed-checks : checkScript mixed-script ≡ refused 15 19
 unfolding check-opened
@@ -158,7 +158,7 @@ narrow-script = plain (cons (define char (11, 17, 21) (name (codes "c") 16) (con
 
 narrow-reads : Reads (codes "int main(){char c='a';c+=c;if(c<'\\0')return 1;}") narrow-script
 unfolding reading-opened
-narrow-reads = record { whole = refl; script = record { reads = record { grammatical = omega arith; lexemes = refl }; shallow = omega arith } }
+narrow-reads = record { short = omega arith; whole = refl; script = record { reads = record { grammatical = omega arith; lexemes = refl }; shallow = omega arith } }
 
 narrow-checks : checkScript narrow-script ≡ accepted tt
 unfolding check-opened
@@ -176,7 +176,7 @@ counts-script = plain (cons (for-to 11 (14, 15, 20, 23, 27) (name (codes "i") 19
 
 counts-reads : Reads (codes "int main(){for(int i=0 to 3)continue;}") counts-script
 unfolding reading-opened
-counts-reads = record { whole = refl; script = record { reads = record { grammatical = omega arith; lexemes = refl }; shallow = omega arith } }
+counts-reads = record { short = omega arith; whole = refl; script = record { reads = record { grammatical = omega arith; lexemes = refl }; shallow = omega arith } }
 
 counts-checks : checkScript counts-script ≡ accepted tt
 unfolding check-opened

@@ -10,3 +10,4 @@ pub mod Run
 pub mod Laws
 pub mod Sources
 pub mod Known
+pub mod Unique

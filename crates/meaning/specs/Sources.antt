@@ -1,11 +1,11 @@
 -- What becomes of a source: which script it is, or with which number and place it is refused.
-use Prim.Native.Nat.{ℕ}
+use Prim.Native.Nat.{ℕ, _≤_}
 use mathlib.Core.List.{List}
 use mathlib.Core.Path.{_≡_}
 use lib.ListN.{length}
 use Rattle.refusal.specs.Told.{accepted, refused}
 use Rattle.lexer.specs.Lexeme.{Lexeme}
-use Rattle.lexer.specs.Reading.{reading, lexemes, none}
+use Rattle.lexer.specs.Reading.{reading, lexemes, sourceLimit, none}
 use Rattle.meaning.specs.Trees.{Script}
 use Rattle.meaning.specs.Grammar.{Accepted, EndsEarly}
 use Rattle.meaning.specs.Check.{checkScript}
@@ -14,8 +14,9 @@ use Rattle.meaning.specs.Check.{checkScript}
 abbrev pub lexemesOf : List ℕ → List Lexeme
 lexemesOf source = lexemes source (reading source .tokens)
 
--- all of the source is read, and it is this script of the grammar
+-- the source is not too long, all of it is read, and it is this script of the grammar
 pub record Reads (source : List ℕ) (s : Script) : Type 0 where
+  pub short : length source ≤ sourceLimit
   pub whole : reading source .fault ≡ none
   pub script : Accepted (lexemesOf source) s
 

@@ -3,16 +3,13 @@ use mathlib.Core.Path.{_≡_, refl, ap, sym, subst, _∙_}
 use mathlib.Core.List.{List}
 use Prim.Native.Nat.{ℕ, _+_, _-_, _<_, _≤_}
 use native.Mathlib.Omega.{arith}
-use lib.IntN.{pos}
 use lib.ListN.{length, getD, take, drop}
 use mir.Syntax.{w32}
 use Rattle.std.proofs.shelf.Lists.{take-rest, length-drop}
 use Rattle.std.proofs.shelf.Signed.{toZ-pos}
-use Rattle.std.specs.declared.result.Result.{Result}
-use Rattle.std.specs.declared.result.Result.the-variants.{Ok, Err}
 use Rattle.lexer.specs.declared.kind.Kind.{Kind}
 use Rattle.lexer.specs.Classes.{classOf}
-use Rattle.lexer.specs.Reading.{Front, token, wrong, tokenFront, tokenOf}
+use Rattle.lexer.specs.Reading.{Front, token, tokenFront}
 use Rattle.lexer.specs.Constants.{greatest}
 use Rattle.lexer.proofs.Fronts.{Bounded, bounded}
 use Rattle.lexer.proofs.scan.token_at.Needs as need

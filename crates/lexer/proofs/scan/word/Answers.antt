@@ -1,8 +1,8 @@
-use Prim.Native.Nat.{ℕ, _-_}
+use Prim.Native.Nat.{ℕ}
 use mathlib.Core.Path.{_≡_, ap, _∙_}
 use native.Mathlib.Nat.{sub-zero}
 use lib.ListN.{take}
-use Rattle.lexer.specs.Reading.{Front, token}
+use Rattle.lexer.specs.Reading.{token}
 use Rattle.lexer.specs.Spelling.{wordKind}
 use Rattle.lexer.proofs.scan.word.Needs as need
 

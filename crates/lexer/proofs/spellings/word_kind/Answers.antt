@@ -1,13 +1,12 @@
 -- Each turn takes one keyword off the list that is left.
 use mathlib.Core.Path.{_≡_, sym, ap, _∙_}
-use mathlib.Core.Bool.{Bool, true, false, cond}
+use mathlib.Core.Bool.{true, false, cond}
 use mathlib.Core.List.{List}
 use Prim.Native.Nat.{ℕ, _+_, _<_}
 use lib.ListN.{length, getD, drop}
 use Rattle.std.specs.shelf.Text.{sameBytes}
 use Rattle.std.proofs.shelf.Lists.{at-drop-more}
 use Rattle.std.proofs.shelf.Tests.{cond-true, cond-false}
-use Rattle.lexer.specs.declared.kind.Kind.{Kind}
 use Rattle.lexer.specs.declared.kind.Kind.the-variants.{Name}
 use Rattle.lexer.specs.Spelling.{keywords, spellingOf, wordKindIn}
 use Rattle.lexer.proofs.spellings.word_kind.Needs as need

@@ -1,15 +1,11 @@
 use mathlib.Core.Path.{_≡_, ap, _∙_}
 use mathlib.Core.Logic.{_⊎_, inl, inr}
-use Prim.Native.Nat.{ℕ, _≤_}
 use native.Mathlib.Omega.{arith}
 use denote.Ref.{now}
 use lib.ListN.{length}
-use Rattle.std.specs.declared.option.Option.the-variants.{None}
-use Rattle.std.specs.declared.result.Result.the-variants.{Ok}
 use Rattle.lexer.specs.declared.reader.State.{State}
 use Rattle.lexer.specs.declared.reader.State.the-variants.{Code, LineComment}
 use Rattle.lexer.specs.Reading.{ended, none, stopped}
-use Rattle.lexer.specs.Scans.{ahead, Next}
 use Rattle.lexer.proofs.Ahead.{at-end}
 use Rattle.lexer.proofs.reader.Reader.next.Needs as need
 

@@ -1,4 +1,4 @@
-use mathlib.Core.Path.{_≡_, sym, _∙_}
+use mathlib.Core.Path.{sym, _∙_}
 use Rattle.lexer.proofs.Ahead.{went, line-opens, long-opens}
 use Rattle.lexer.proofs.reader.Reader.open.Needs as need
 use lib.ListN.{drop}

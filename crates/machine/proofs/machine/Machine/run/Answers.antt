@@ -8,7 +8,7 @@ use Rattle.machine.specs.Runs.{Call, callFrom, call, says}
 use Rattle.machine.specs.Views.{overOf, keeps}
 use Rattle.machine.proofs.Calling.{call-is, left-within}
 use Rattle.machine.proofs.Equations.{every-ends}
-use Rattle.machine.proofs.Resuming.{resumes, stays}
+use Rattle.machine.proofs.Resuming.{waits-or-over, resumes, stays}
 use Rattle.machine.proofs.machine.Machine.run.Needs as need
 
 pub returns-in-Some : need.returns-in-Some
@@ -21,6 +21,7 @@ returns-in-Some g c =
       after = ap (λ (x : Call). x .kept) e;
       board = ap (λ (x : Call). x .board) e;
       ends = every-ends;
+      waits = waits-or-over;
       resumes = resumes;
       stays = stays;
     }
@@ -42,6 +43,7 @@ returns g c =
       after = s .after ∙ ap (λ (x : Call). x .kept) f;
       board = ap (λ (x : Call). x .board) f;
       ends = every-ends;
+      waits = waits-or-over;
       resumes = resumes;
       stays = stays;
     }

@@ -9,7 +9,8 @@ use Rattle.machine.specs.declared.flow.Flow.{Flow}
 use Prim.Native.Nat.{_+_, _≤_}
 use Rattle.machine.specs.Runs.{begun, upTo, off, turnFrom, turn}
 use Rattle.machine.specs.Views.{overOf, keeps, stateOf, nextOf}
-use Rattle.machine.proofs.Calling.{step-within, on-is, Stopped, tally, quiet, off-is}
+use Rattle.machine.proofs.Calling.{step-within, on-is, tally, quiet, off-is}
+use Rattle.machine.proofs.Looping.{Stopped}
 use Rattle.machine.proofs.machine.Machine.step.Needs as need
 
 pub returns-in-Some : need.returns-in-Some

@@ -1,6 +1,5 @@
 use borrow.Author.Needs.{needs}
 use native.Mathlib.Omega.{arith}
-use mathlib.Core.Logic.{_⊎_, inl, inr, ⊎-elim}
 use mathlib.Core.Path.{_≡_, refl, sym, ap, subst, _∙_}
 use Prim.Native.Nat.{ℕ, _+_, _-_, _<_, _≤_}
 use Rattle.machine.specs.declared.flow.Flow.{Flow}
@@ -9,7 +8,7 @@ use Rattle.machine.specs.Endings.{endOf}
 use Rattle.machine.specs.Steps.{State, Next, go, stop, wait, break, step}
 use Rattle.machine.specs.Views.{stateOf, howOf, nextOf}
 use Rattle.machine.proofs.Falls.{rest, Falls, step-falls}
-use Rattle.machine.proofs.Looping.{Loop, begins, straight, leapt, ended-same, waited-same, broke-same, inside-go, inside-stop, turned-to}
+use Rattle.machine.proofs.Looping.{Loop, begins, straight, leapt, ended-same, waited-same, broke-same, inside-go, inside-stop, turned-to, Stopped, same-cursor}
 use Rattle.machine.proofs.memory.Memory.run.Needs as need
 use Rattle.machine.proofs.memory.Memory.run.Needs.{then-moved-position, else-moved-position}
 
@@ -52,21 +51,32 @@ add-position-in-Ends g c =
 pub returns-in-Ends : need.returns-in-Ends
 returns-in-Ends g c =
     let e = turned-to _ _ _ (c .step-moved .ensures) (c .in-Ends .is) in
-    let s = ended-same _ _ _ _ _ _ _ (c .run .inv) (endOf (c .in-Ends .field-0)) (c .saturating-add-counted-in-Ends .result) e (c .saturating-add-counted-in-Ends .ensures) in
-    record { how = ap howOf (c .in-Ends .is) ∙ s .0; state = s .1; counted = s .2 }
+    let k = c .saturating-add-counted-in-Ends in
+    let s = ended-same _ _ _ _ _ _ _ (c .run .inv) (endOf (c .in-Ends .ending)) (k .result) e (k .ensures) in
+    let same = same-cursor (c .args .code .now) (c .run .self) (c .step-moved .last .self) (c .run .at) (c .step-moved .result .at) (g .B·Board .meaning (c .run .board))
+    (g .B·Board .meaning (c .step-moved .last .board)) (c .step-moved .result .flow) (c .step-moved .ensures) (subst Stopped (sym (c .in-Ends .is)) tt) in
+    record { how = s .0; state = same ∙ s .1; counted = s .2 }
 
 pub sub-position-in-Waits : need.sub-position-in-Waits
 sub-position-in-Waits g c = c .run .inv .since
 
 pub returns-in-Waits : need.returns-in-Waits
 returns-in-Waits g c =
-    let l = c .run .inv in
+    let e = turned-to _ _ _ (c .step-moved .ensures) (c .in-Waits .is) in
     let k = c .saturating-add-counted-in-Waits in
-    ⊎-elim
-    (λ is.
-    let s = waited-same _ _ _ _ _ _ _ l (k .result) (turned-to _ _ _ (c .step-moved .ensures) is) (k .ensures) in
-    record { how = ap howOf is ∙ s .0; state = s .1; counted = s .2 })
-    (λ is.
-    let s = broke-same _ _ _ _ _ _ _ l (k .result) (turned-to _ _ _ (c .step-moved .ensures) is) (k .ensures) in
-    record { how = ap howOf is ∙ s .0; state = s .1; counted = s .2 })
-    (c .in-Waits .is)
+    let s = waited-same _ _ _ _ _ _ _ (c .run .inv) (k .result) e (k .ensures) in
+    let same = same-cursor (c .args .code .now) (c .run .self) (c .step-moved .last .self) (c .run .at) (c .step-moved .result .at) (g .B·Board .meaning (c .run .board))
+    (g .B·Board .meaning (c .step-moved .last .board)) (c .step-moved .result .flow) (c .step-moved .ensures) (subst Stopped (sym (c .in-Waits .is)) tt) in
+    record { how = s .0; state = same ∙ s .1; counted = s .2 }
+
+pub sub-position-in-Breaks : need.sub-position-in-Breaks
+sub-position-in-Breaks g c = c .run .inv .since
+
+pub returns-in-Breaks : need.returns-in-Breaks
+returns-in-Breaks g c =
+    let e = turned-to _ _ _ (c .step-moved .ensures) (c .in-Breaks .is) in
+    let k = c .saturating-add-counted-in-Breaks in
+    let s = broke-same _ _ _ _ _ _ _ (c .run .inv) (k .result) e (k .ensures) in
+    let same = same-cursor (c .args .code .now) (c .run .self) (c .step-moved .last .self) (c .run .at) (c .step-moved .result .at) (g .B·Board .meaning (c .run .board))
+    (g .B·Board .meaning (c .step-moved .last .board)) (c .step-moved .result .flow) (c .step-moved .ensures) (subst Stopped (sym (c .in-Breaks .is)) tt) in
+    record { how = s .0; state = same ∙ s .1; counted = s .2 }

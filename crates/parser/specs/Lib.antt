@@ -1,0 +1,3 @@
+pub mod Seen
+pub mod Verdict
+pub mod Steps
