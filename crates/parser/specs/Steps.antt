@@ -75,6 +75,17 @@ operands n d K = operand d ∷ tailsTo n d K
 abbrev pub theArguments : ℕ → List Sym → List Sym
 theArguments d K = arguments d ∷ token CloseParen ∷ K
 
+-- Each of these, one deeper than an operand at depth d: under a prefix operator, in brackets, as arguments.
+
+abbrev pub prefixedBy : ℕ → List Sym → List Sym
+prefixedBy d K = operand (d + 1) ∷ K
+
+abbrev pub inBrackets : ℕ → List Sym → List Sym
+inBrackets d K = expr (d + 1) ∷ token CloseParen ∷ K
+
+abbrev pub calledWith : ℕ → List Sym → List Sym
+calledWith d K = theArguments (d + 1) K
+
 -- Statements; depths in a statement at depth d.
 
 abbrev pub aStatement : ℕ → List Sym → List Sym
@@ -91,6 +102,10 @@ aCondition d K = token OpenParen ∷ expr d ∷ token CloseParen ∷ K
 -- statements and `}`
 abbrev pub aBlock : ℕ → List Sym → List Sym
 aBlock d K = statements d ∷ token CloseBrace ∷ K
+
+-- the statements of a block
+abbrev pub inBraces : ℕ → List Sym → List Sym
+inBraces d K = aBlock (d + 1) K
 
 -- NAME = e ;
 abbrev pub aDefinition : ℕ → List Sym → List Sym

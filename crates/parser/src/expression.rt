@@ -3,7 +3,7 @@ ghost use mathlib.Core.Path.{_≡_};
 ghost use Prim.Native.Nat.{ℕ, _+_, _<_, _≤_};
 ghost use lib.ListN.{length};
 ghost use Rattle.std.specs.Vec.{made};
-ghost use Rattle.parser.specs.Steps.{Parses, operands, anOperand, anExpression, theArguments};
+ghost use Rattle.parser.specs.Steps.{Parses, operands, anOperand, anExpression, theArguments, prefixedBy, inBrackets, calledWith};
 use crate::class::Start;
 use crate::class::looseness_at;
 use crate::class::start_at;
@@ -52,19 +52,44 @@ fn operand(tokens: &[Token], at: usize, depth: u32) -> Result<usize, Fault>
         Start::Nothing => Err(Fault::Unexpected(at)),
         _ if depth > DEEPEST => Err(Fault::TooDeep(at)),
         Start::Constant => Ok(at + 1),
-        Start::Prefix => operand(tokens, at + 1, depth + 1),
-        Start::Bracket => {
-            let end = expression(tokens, at + 1, depth + 1)?;
-            expect(tokens, end, Kind::CloseParen)
-        }
+        Start::Prefix => prefixed(tokens, at + 1, depth),
+        Start::Bracket => bracketed(tokens, at + 1, depth),
         Start::Name => {
             if is_at(tokens, at + 1, Kind::OpenParen) {
-                arguments(tokens, at + 2, depth + 1)
+                called(tokens, at + 2, depth)
             } else {
                 Ok(at + 1)
             }
         }
     }
+}
+
+// What a prefix operator stands before.
+fn prefixed(tokens: &[Token], at: usize, depth: u32) -> Result<usize, Fault>
+    requires { ⌜ depth ≤ 32 ⌝ }
+    ensures within { λ r. ⌜ made r (λ q. (at < q) × (q ≤ length (now (tokens .entry)))) ⌝ }
+    ensures same { λ r. ⌜ Parses (prefixedBy depth) (now (tokens .entry)) at r ⌝ }
+{
+    operand(tokens, at, depth + 1)
+}
+
+// What an opening bracket begins, with the bracket that closes it.
+fn bracketed(tokens: &[Token], at: usize, depth: u32) -> Result<usize, Fault>
+    requires { ⌜ depth ≤ 32 ⌝ }
+    ensures within { λ r. ⌜ made r (λ q. (at < q) × (q ≤ length (now (tokens .entry)))) ⌝ }
+    ensures same { λ r. ⌜ Parses (inBrackets depth) (now (tokens .entry)) at r ⌝ }
+{
+    let end = expression(tokens, at, depth + 1)?;
+    expect(tokens, end, Kind::CloseParen)
+}
+
+// What follows the opening bracket of a call.
+fn called(tokens: &[Token], at: usize, depth: u32) -> Result<usize, Fault>
+    requires { ⌜ depth ≤ 32 ⌝ }
+    ensures within { λ r. ⌜ made r (λ q. (at < q) × (q ≤ length (now (tokens .entry)))) ⌝ }
+    ensures same { λ r. ⌜ Parses (calledWith depth) (now (tokens .entry)) at r ⌝ }
+{
+    arguments(tokens, at, depth + 1)
 }
 
 // The arguments of a call, and the bracket that closes them.

@@ -3,7 +3,7 @@ ghost use mathlib.Core.Path.{_≡_};
 ghost use Prim.Native.Nat.{ℕ, _+_, _<_, _≤_};
 ghost use lib.ListN.{length};
 ghost use Rattle.std.specs.Vec.{made};
-ghost use Rattle.parser.specs.Steps.{Parses, aStatement, terminated, aCondition, aBlock, aDefinition, aBranch, aRepetition, aRound, aCount};
+ghost use Rattle.parser.specs.Steps.{Parses, aStatement, terminated, aCondition, aBlock, inBraces, aDefinition, aBranch, aRepetition, aRound, aCount};
 use crate::class::Lead;
 use crate::class::assigns_at;
 use crate::class::lead_at;
@@ -52,7 +52,7 @@ pub(crate) fn statement(tokens: &[Token], at: usize, depth: u32) -> Result<usize
     match lead_at(tokens, at) {
         Lead::Nothing => Err(Fault::Unexpected(at)),
         _ if depth > DEEPEST => Err(Fault::TooDeep(at)),
-        Lead::Block => block(tokens, at + 1, depth + 1),
+        Lead::Block => nested(tokens, at + 1, depth),
         Lead::Definition => definition(tokens, at + 1, depth),
         Lead::Name => {
             if assigns_at(tokens, at + 1) {
@@ -87,6 +87,15 @@ pub(crate) fn block(tokens: &[Token], at: usize, depth: u32) -> Result<usize, Fa
         end = statement(tokens, end, depth)?;
     }
     Ok(end + 1)
+}
+
+// What the opening brace of a block begins.
+fn nested(tokens: &[Token], at: usize, depth: u32) -> Result<usize, Fault>
+    requires { ⌜ depth ≤ 32 ⌝ }
+    ensures within { λ r. ⌜ made r (λ q. (at < q) × (q ≤ length (now (tokens .entry)))) ⌝ }
+    ensures same { λ r. ⌜ Parses (inBraces depth) (now (tokens .entry)) at r ⌝ }
+{
+    block(tokens, at, depth + 1)
 }
 
 // What follows `if`: the condition, the body, and perhaps another after `else`.
@@ -139,6 +148,6 @@ fn for_loop(tokens: &[Token], at: usize, depth: u32) -> Result<usize, Fault>
     let to = expression(tokens, start, depth)?;
     let stop = expect(tokens, to, Kind::To)?;
     let close = expression(tokens, stop, depth)?;
-    let body = expect(tokens, close, Kind::CloseParen)?;
-    statement(tokens, body, depth + 1)
+    let round = expect(tokens, close, Kind::CloseParen)?;
+    statement(tokens, round, depth + 1)
 }

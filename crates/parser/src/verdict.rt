@@ -32,9 +32,9 @@ fn refusal_of(source: &[u8], tokens: &[Token], fault: Fault) -> Refusal
             reason: Reason::UnexpectedToken,
             place: place_at(source, tokens, at),
         },
-        Fault::TooDeep(at) => Refusal {
+        Fault::TooDeep(start) => Refusal {
             reason: Reason::TooDeep,
-            place: place_at(source, tokens, at),
+            place: place_at(source, tokens, start),
         },
     }
 }

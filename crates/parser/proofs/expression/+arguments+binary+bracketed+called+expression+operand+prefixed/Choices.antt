@@ -6,7 +6,7 @@ use Rattle.meaning.proofs.Tokens.{CloseParen}
 use Rattle.meaning.proofs.Stack.{Sym, token, tail, further}
 use Rattle.parser.specs.Steps.{operands, theArguments}
 use Rattle.parser.proofs.Expressions.{from}
-use Rattle.parser.proofs.expression.+arguments+binary+expression+operand.Given as given
+use Rattle.parser.proofs.expression.+arguments+binary+bracketed+called+expression+operand+prefixed.Given as given
 
 abbrev pub μ-arguments : given.MeasureT-arguments
 μ-arguments l = 16 * (length (l .tokens .now) - l .at) + 9
@@ -19,6 +19,15 @@ abbrev pub μ-binary : given.MeasureT-binary
 
 abbrev pub μ-operand : given.MeasureT-operand
 μ-operand l = 16 * (length (l .tokens .now) - l .at)
+
+abbrev pub μ-prefixed : given.MeasureT-prefixed
+μ-prefixed l = 16 * (length (l .tokens .now) - l .at) + 1
+
+abbrev pub μ-bracketed : given.MeasureT-bracketed
+μ-bracketed l = 16 * (length (l .tokens .now) - l .at) + 9
+
+abbrev pub μ-called : given.MeasureT-called
+μ-called l = 16 * (length (l .tokens .now) - l .at) + 10
 
 abbrev pub Inv-binary-operands : given.InvT-binary-operands
 Inv-binary-operands l =

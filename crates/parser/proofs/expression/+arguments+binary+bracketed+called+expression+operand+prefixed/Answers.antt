@@ -4,7 +4,7 @@ use Rattle.std.proofs.shelf.Results.{err-from-errBy}
 use Rattle.meaning.proofs.Tokens.{CloseParen}
 use Rattle.meaning.proofs.Stack.{token}
 use Rattle.parser.proofs.Expressions.{expression-is, binary-more, tail-stop, tail-go, operand-nothing, operand-deep, operand-constant, operand-prefix, operand-bracket, operand-variable, operand-call, arguments-none, arguments-some, further-go, further-stop}
-use Rattle.parser.proofs.expression.+arguments+binary+expression+operand.Needs as need
+use Rattle.parser.proofs.expression.+arguments+binary+bracketed+called+expression+operand+prefixed.Needs as need
 
 pub arguments-returns-then-is-at : need.arguments-returns-then-is-at
 arguments-returns-then-is-at t c = record { within = search needs; same = λ s K. arguments-none s _ _ _ K (sym (c .if-is-at .ensures tt .same)) }
@@ -50,11 +50,6 @@ binary-returns t c = record { within = search needs; same = λ s K. c .operands 
 pub expression-returns : need.expression-returns
 expression-returns t c = record { within = search needs; same = λ s K. expression-is s _ _ _ K ∙ c .binary .ensures .same s K }
 
-pub operand-returns-in-Break-end : need.operand-returns-in-Break-end
-operand-returns-in-Break-end t c =
-    let p = err-from-errBy (c .from-residual .result) (c .from-residual .ensures .1) in
-    rw (p .1, p .2) (record { within = tt; same = λ s K. operand-bracket s _ _ _ K (c .if-depth-gt-DEEPEST .left) (c .in-Bracket .ensures tt .inside) (c .in-Bracket .ensures tt .same) ∙ c .in-Break-end .ensures tt .same s _ })
-
 pub operand-returns-in-rest : need.operand-returns-in-rest
 operand-returns-in-rest t c = record { within = tt; same = λ s K. operand-deep s _ _ _ K _ (c .in-rest .not-Nothing) (search needs) (c .start-at .ensures .same) (c .if-depth-gt-DEEPEST .taken) }
 
@@ -62,13 +57,13 @@ pub operand-returns-in-Constant : need.operand-returns-in-Constant
 operand-returns-in-Constant t c = record { within = search needs; same = λ s K. operand-constant s _ _ _ K (c .if-depth-gt-DEEPEST .left) (c .in-Constant .ensures tt .inside) (c .in-Constant .ensures tt .same) }
 
 pub operand-returns-in-Prefix : need.operand-returns-in-Prefix
-operand-returns-in-Prefix t c = record { within = search needs; same = λ s K. operand-prefix s _ _ _ K (c .if-depth-gt-DEEPEST .left) (c .in-Prefix .ensures tt .inside) (c .in-Prefix .ensures tt .same) ∙ c .operand .ensures .same s K }
+operand-returns-in-Prefix t c = record { within = search needs; same = λ s K. operand-prefix s _ _ _ K (c .if-depth-gt-DEEPEST .left) (c .in-Prefix .ensures tt .inside) (c .in-Prefix .ensures tt .same) ∙ c .prefixed .ensures .same s K }
 
-pub operand-returns-in-Continue-end : need.operand-returns-in-Continue-end
-operand-returns-in-Continue-end t c = record { within = search needs; same = λ s K. operand-bracket s _ _ _ K (c .if-depth-gt-DEEPEST .left) (c .in-Bracket .ensures tt .inside) (c .in-Bracket .ensures tt .same) ∙ c .in-Continue-end .ensures tt .same s _ ∙ c .expect .ensures .same (token CloseParen) refl s K }
+pub operand-returns-in-Bracket : need.operand-returns-in-Bracket
+operand-returns-in-Bracket t c = record { within = search needs; same = λ s K. operand-bracket s _ _ _ K (c .if-depth-gt-DEEPEST .left) (c .in-Bracket .ensures tt .inside) (c .in-Bracket .ensures tt .same) ∙ c .bracketed .ensures .same s K }
 
 pub operand-returns-then-is-at : need.operand-returns-then-is-at
-operand-returns-then-is-at t c = record { within = search needs; same = λ s K. operand-call s _ _ _ K (c .if-depth-gt-DEEPEST .left) (c .in-Name .ensures tt .inside) (c .in-Name .ensures tt .same) (sym (c .if-is-at .ensures tt .same)) ∙ c .arguments .ensures .same s K }
+operand-returns-then-is-at t c = record { within = search needs; same = λ s K. operand-call s _ _ _ K (c .if-depth-gt-DEEPEST .left) (c .in-Name .ensures tt .inside) (c .in-Name .ensures tt .same) (sym (c .if-is-at .ensures tt .same)) ∙ c .called .ensures .same s K }
 
 pub operand-returns-else-is-at : need.operand-returns-else-is-at
 operand-returns-else-is-at t c = record { within = search needs; same = λ s K. operand-variable s _ _ _ K (c .if-depth-gt-DEEPEST .left) (c .in-Name .ensures tt .inside) (c .in-Name .ensures tt .same) (sym (c .if-is-at .ensures tt .same)) }

@@ -4,7 +4,7 @@ use Rattle.std.proofs.shelf.Results.{err-from-errBy}
 use Rattle.meaning.proofs.Tokens.{Semicolon}
 use Rattle.meaning.proofs.Stack.{token}
 use Rattle.parser.proofs.Statements.{statement-nothing, statement-deep, statement-block, statement-definition, statement-assign, statement-named, statement-if, statement-while, statement-do, statement-for, statement-jump, statement-return-bare, statement-return, statement-expression, statements-end, statements-more, else-none, else-some}
-use Rattle.parser.proofs.statement.+block+conditional+do_loop+for_loop+statement+while_loop.Needs as need
+use Rattle.parser.proofs.statement.+block+conditional+do_loop+for_loop+nested+statement+while_loop.Needs as need
 
 pub block-returns-in-Break-end : need.block-returns-in-Break-end
 block-returns-in-Break-end t c =
@@ -32,7 +32,7 @@ pub statement-returns-in-Nothing : need.statement-returns-in-Nothing
 statement-returns-in-Nothing t c = record { within = tt; same = λ s K. statement-nothing s _ _ _ K (c .in-Nothing .ensures tt .same) }
 
 pub statement-returns-in-Block : need.statement-returns-in-Block
-statement-returns-in-Block t c = record { within = search needs; same = λ s K. statement-block s _ _ _ K (c .if-depth-gt-DEEPEST .left) (c .in-Block .ensures tt .inside) (c .in-Block .ensures tt .same) ∙ c .block .ensures .same s K }
+statement-returns-in-Block t c = record { within = search needs; same = λ s K. statement-block s _ _ _ K (c .if-depth-gt-DEEPEST .left) (c .in-Block .ensures tt .inside) (c .in-Block .ensures tt .same) ∙ c .nested .ensures .same s K }
 
 pub statement-returns-in-Definition : need.statement-returns-in-Definition
 statement-returns-in-Definition t c = record { within = search needs; same = λ s K. statement-definition s _ _ _ K (c .if-depth-gt-DEEPEST .left) (c .in-Definition .ensures tt .inside) (c .in-Definition .ensures tt .same) ∙ c .definition .ensures .same s K }

@@ -5,25 +5,28 @@ use lib.ListN.{length}
 use Rattle.meaning.proofs.Stack.{Sym}
 use Rattle.parser.specs.Steps.{aBlock}
 use Rattle.parser.proofs.Expressions.{from}
-use Rattle.parser.proofs.statement.+block+conditional+do_loop+for_loop+statement+while_loop.Given as given
+use Rattle.parser.proofs.statement.+block+conditional+do_loop+for_loop+nested+statement+while_loop.Given as given
 
 abbrev pub μ-statement : given.MeasureT-statement
-μ-statement l = 4 * (length (l .tokens .now) - l .at) + 2
+μ-statement l = 8 * (length (l .tokens .now) - l .at) + 2
 
 abbrev pub μ-block : given.MeasureT-block
-μ-block l = 4 * (length (l .tokens .now) - l .at) + 3
+μ-block l = 8 * (length (l .tokens .now) - l .at) + 3
+
+abbrev pub μ-nested : given.MeasureT-nested
+μ-nested l = 8 * (length (l .tokens .now) - l .at) + 4
 
 abbrev pub μ-conditional : given.MeasureT-conditional
-μ-conditional l = 4 * (length (l .tokens .now) - l .at) + 3
+μ-conditional l = 8 * (length (l .tokens .now) - l .at) + 3
 
 abbrev pub μ-while-loop : given.MeasureT-while-loop
-μ-while-loop l = 4 * (length (l .tokens .now) - l .at) + 3
+μ-while-loop l = 8 * (length (l .tokens .now) - l .at) + 3
 
 abbrev pub μ-do-loop : given.MeasureT-do-loop
-μ-do-loop l = 4 * (length (l .tokens .now) - l .at) + 3
+μ-do-loop l = 8 * (length (l .tokens .now) - l .at) + 3
 
 abbrev pub μ-for-loop : given.MeasureT-for-loop
-μ-for-loop l = 4 * (length (l .tokens .now) - l .at) + 3
+μ-for-loop l = 8 * (length (l .tokens .now) - l .at) + 3
 
 abbrev pub Inv-block-statements : given.InvT-block-statements
 Inv-block-statements l =
