@@ -1,12 +1,12 @@
 -- A token that is wanted: there, or not.
-use Prim.Native.Nat.{ℕ, zero, suc, _+_, _<_, _≤_}
-use mathlib.Core.Bool.{Bool, true, false, cond, not}
+use Prim.Native.Nat.{ℕ, zero, suc, _+_, _<_}
+use mathlib.Core.Bool.{Bool, true, false, not}
 use mathlib.Core.List.{List, [], _∷_}
 use mathlib.Core.Option.{some, none}
 use mathlib.Core.Path.{_≡_, refl, sym, _∙_, ap, subst}
 use native.Mathlib.Omega.{arith}
 use lib.Dec.{eqb}
-use lib.ListN.{length, drop, getD, drop-of-length-le}
+use lib.ListN.{length, drop, getD}
 use Rattle.std.proofs.shelf.Ways.{tells}
 use Rattle.std.specs.declared.option.Option.{Option}
 use Rattle.std.specs.declared.option.Option.the-variants.{Some, None}
@@ -14,14 +14,13 @@ use Rattle.lexer.specs.Reading.{lexemes}
 use Rattle.lexer.specs.declared.kind.Kind.{Kind}
 use Rattle.lexer.specs.declared.kind.Kind.the-variants as Kinds
 use Rattle.lexer.specs.declared.kind.Token.{Token}
-use Rattle.meaning.specs.declared.operator.Scalar.the-variants.{Bool as bool, Char as char, Int as int}
-use Rattle.meaning.specs.declared.operator.Operator.the-variants.{Add, Subtract, Multiply, Divide, Remainder, Less, LessEqual, Greater, GreaterEqual, Equal, NotEqual, And, Or}
-use Rattle.meaning.specs.Trees.{plus, minus, times, over, modulo, both, either}
+use Rattle.meaning.specs.declared.operator.Scalar.the-variants.{Int as int}
+use Rattle.meaning.specs.declared.operator.Operator.the-variants.{Less, LessEqual, Greater, GreaterEqual, Equal, NotEqual, And, Or}
 use Rattle.meaning.proofs.Tokens.{Word, Void, Extern, Static, If, Else, While, Do, For, To, Break, Continue, Return, Assign, OpenParen, CloseParen, OpenBrace, CloseBrace, Comma, Semicolon, Tok, name, value, type, operator, bang, modifier, word, stray, wordKind}
-use Rattle.meaning.proofs.Stack.{wordCode, sameWord, at, isWord, asName, asInt, Sym, token, aName, aConstant, aResult, anInt, parameter, operand, called, tail, expr, exprs, further, arguments, statement, named, returned, statements, orelse, script, declared, integer, mainly, Step, stop, terminal, step}
+use Rattle.meaning.proofs.Stack.{sameWord, at, isWord, asName, asInt, Sym, token, aName, aConstant, aResult, anInt, parameter, operand, called, tail, expr, exprs, further, arguments, statement, named, returned, statements, orelse, script, declared, integer, mainly, terminal}
 use Rattle.meaning.proofs.Builds.{never, same-word}
-use Rattle.meaning.proofs.Judge.{Outcome, refused, judge}
-use Rattle.parser.specs.Seen.{code, isKind, seen, firstKind}
+use Rattle.meaning.proofs.Judge.{refused, judge}
+use Rattle.parser.specs.Seen.{code, isKind, seen}
 use Rattle.parser.specs.Steps.{Wants}
 use Rattle.parser.proofs.Look.{Kinded, Sees, tokAt, sees, stepping, refusing}
 
@@ -121,9 +120,6 @@ word-of Semicolon t h = h
 -- Whether a token is that word is whether its kind is.
 pub self-word : (w : Word) → sameWord w w ≡ true
 self-word w = grind (arith, tells)
-
-self-kind : (k : Kind) → eqb (code k) (code k) ≡ true
-self-kind k = grind (arith, tells)
 
 is-word : (w : Word) (t : Tok) → isWord w t ≡ true → (p : ℕ) × (t ≡ word w p)
 is-word w (name x) h = never h

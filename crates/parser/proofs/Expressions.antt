@@ -1,9 +1,9 @@
 -- What the machine does with expressions, for each way that the code takes.
-use Prim.Native.Nat.{ℕ, zero, suc, pred, _+_, _-_, _<_, _≤_}
+use Prim.Native.Nat.{ℕ, zero, suc, _+_, _-_, _<_, _≤_}
 use mathlib.Core.Bool.{Bool, true, false, cond, not}
 use mathlib.Core.List.{List, [], _∷_}
 use mathlib.Core.Logic.{_⊎_, inl, inr}
-use mathlib.Core.Path.{_≡_, refl, sym, _∙_, ap, subst}
+use mathlib.Core.Path.{_≡_, refl, _∙_, ap}
 use native.Mathlib.Omega.{arith}
 use native.Mathlib.Numerals.{sub-one}
 use lib.Dec.{eqb, ltb}
@@ -19,15 +19,15 @@ use Rattle.meaning.specs.declared.operator.Operator.{Operator}
 use Rattle.meaning.specs.declared.operator.Operator.the-variants.{Add, Subtract, Multiply, Divide, Remainder, Less, LessEqual, Greater, GreaterEqual, Equal, NotEqual, And, Or}
 use Rattle.meaning.specs.Trees.{Ident, Constant, variable, args, no-args}
 use Rattle.meaning.specs.Grammar.{looseness}
-use Rattle.meaning.proofs.Tokens.{Word, OpenParen, CloseParen, Comma, Tok, name, value, type, operator, bang, modifier, word, stray}
-use Rattle.meaning.proofs.Stack.{at, isWord, loose, Sym, token, operand, called, tail, expr, exprs, further, arguments, done, end, Step, stop, on, onto, operandRule, tailRule, exprRule, exprsRule, gather, listed, callRule, tailsTo, Values, step, closed}
+use Rattle.meaning.proofs.Tokens.{OpenParen, CloseParen, Comma, Tok, name, value, operator, bang, word}
+use Rattle.meaning.proofs.Stack.{at, isWord, loose, Sym, token, operand, called, tail, expr, exprs, further, arguments, done, end, stop, on, operandRule, exprRule, exprsRule, gather, listed, tailsTo, step}
 use Rattle.meaning.proofs.Judge.{Outcome, refused, decide, judge}
 use Rattle.parser.specs.declared.class.Start.{Start}
 use Rattle.parser.specs.declared.class.Start.the-variants.{Name, Constant as Literal, Prefix, Bracket, Nothing}
 use Rattle.parser.specs.Seen.{seen, isKind, startOf, loosenessOf}
 use Rattle.parser.specs.Steps.{operands}
-use Rattle.parser.proofs.Look.{Kinded, Sees, tokAt, sees, stepping, refusing, skipping, alike, decide-onto}
-use Rattle.parser.proofs.Expect.{found, found-inside, word-of, word-at, at-none, expected, self-word}
+use Rattle.parser.proofs.Look.{Sees, tokAt, sees, stepping, refusing, skipping, alike, decide-onto}
+use Rattle.parser.proofs.Expect.{found, found-inside, word-at, expected}
 
 -- How an operand begins.
 
@@ -167,9 +167,6 @@ from s ts K i = judge K i (drop i (lexemes s ts))
 pub expression-is : (s : List ℕ) (ts : List Token) (i d : ℕ) (K : List Sym) → from s ts (expr d ∷ K) i ≡ from s ts (operands 6 d K) i
 expression-is s ts i d K =
     alike s ts i (expr d ∷ K) (operands 6 d K) (tokAt s ts i) refl (λ j k. decide-onto (operands 6 d K) (expr d ∷ K) (λ vs. gather 6 d K (vs .0) (vs .1)) (operandRule d (tokAt s ts i) (tailsTo 6 d K)) j k) refl
-
-pub operands-none : (n d : ℕ) (K : List Sym) → n ≡ 0 → operands n d K ≡ operand d ∷ K
-operands-none n d K e = rw e refl
 
 tails-more : (n m d : ℕ) (K : List Sym) → n ≡ suc m → tailsTo n d K ≡ tailsTo m d (tail n d ∷ K)
 tails-more n m d K e = rw e refl

@@ -1,10 +1,9 @@
 -- The token at a place: what code sees of it, and what the machine does.
 use Prim.Native.Nat.{ℕ, zero, suc, _+_, _<_, _≤_}
 use mathlib.Core.Bool.{Bool, true, false, cond, _||_}
-use mathlib.Core.List.{List, [], _∷_, map}
+use mathlib.Core.List.{List, [], _∷_}
 use mathlib.Core.Path.{_≡_, refl, sym, _∙_, ap}
 use native.Mathlib.Numerals.{add-one}
-use lib.Dec.{eqb, ltb}
 use lib.IntN.{ℤ, pos, negsuc}
 use lib.ListN.{length, drop, getD, drop-of-length-le}
 use lib.Seq.{drop-cons}
@@ -20,9 +19,9 @@ use Rattle.lexer.specs.declared.kind.Token.{Token}
 use Rattle.meaning.specs.declared.operator.Scalar.the-variants.{Bool as bool, Char as char, Int as int}
 use Rattle.meaning.specs.declared.operator.Operator.the-variants.{Add, Subtract, Multiply, Divide, Remainder, Less, LessEqual, Greater, GreaterEqual, Equal, NotEqual, And, Or}
 use Rattle.meaning.specs.Trees.{Ident, Constant, number, character, truth, plus, minus, times, over, modulo, both, either}
-use Rattle.meaning.proofs.Tokens.{Word, Void, Extern, Static, If, Else, While, Do, For, To, Break, Continue, Return, Assign, OpenParen, CloseParen, OpenBrace, CloseBrace, Comma, Semicolon, Tok, name, value, type, operator, bang, modifier, word, stray, bare, sorted, tokOf, next}
+use Rattle.meaning.proofs.Tokens.{Void, Extern, Static, If, Else, While, Do, For, To, Break, Continue, Return, Assign, OpenParen, CloseParen, OpenBrace, CloseBrace, Comma, Semicolon, Tok, name, value, type, operator, bang, modifier, word, stray, bare, sorted, tokOf, next}
 use Rattle.meaning.proofs.Stack.{Sym, Value, Values, Step, stop, on, onto, empty, absorbs, step, closed}
-use Rattle.meaning.proofs.Judge.{Outcome, accepted, refused, decide, judge}
+use Rattle.meaning.proofs.Judge.{Outcome, refused, decide, judge}
 use Rattle.parser.specs.Seen.{code, isValued, isZero, kindOf, firstKind, seen}
 
 pub seen-at : (ts : List Token) (at : ℕ) (d : Token) → at < length ts → kindOf (getD ts at d) ≡ seen ts at

@@ -3,11 +3,10 @@ use Prim.Native.Nat.{ℕ, zero, suc, _+_, _<_, _≤_}
 use mathlib.Core.Bool.{Bool, true, false, cond, not, _&&_, _||_}
 use mathlib.Core.List.{List, [], _∷_}
 use mathlib.Core.Option.{some, none}
-use mathlib.Core.Path.{_≡_, refl, sym, _∙_, ap, subst}
+use mathlib.Core.Path.{_≡_, refl, sym, _∙_, ap}
 use native.Mathlib.Omega.{arith}
 use lib.IntN.{ℤ, pos, negsuc}
 use lib.ListN.{length, take, drop, drop-of-length-le}
-use Rattle.std.proofs.shelf.Ways.{tells}
 use Rattle.std.specs.shelf.Text.{sameBytes}
 use Rattle.std.specs.declared.option.Option.{Option}
 use Rattle.std.specs.declared.option.Option.the-variants.{Some, None}
@@ -19,16 +18,15 @@ use Rattle.meaning.specs.declared.operator.Scalar.{Scalar}
 use Rattle.meaning.specs.declared.operator.Scalar.the-variants.{Bool as bool, Char as char, Int as int}
 use Rattle.meaning.specs.Trees.{Ident, Constant, nothing, global, Return as Answer, void, gives}
 use Rattle.meaning.specs.Written.{mainName}
-use Rattle.meaning.proofs.Tokens.{Word, OpenParen, CloseParen, Semicolon, Assign, Static, Extern, Void, Tok, name, value, type, operator, bang, modifier, word, stray, next, tokOf}
-use Rattle.meaning.proofs.Stack.{at, isWord, asName, asType, asResult, asConstant, asInt, Sym, token, aName, aConstant, aResult, parameter, script, declared, integer, mainly, Step, stop, on, onto, terminal, mainlyRule, integerRule, declaredRule, scriptRule, globalRow, prepend, Values, step, closed}
+use Rattle.meaning.proofs.Tokens.{OpenParen, CloseParen, Semicolon, Assign, Static, Extern, Void, Tok, name, value, type, operator, bang, modifier, word, stray, next, tokOf}
+use Rattle.meaning.proofs.Stack.{at, isWord, asName, asType, asResult, asConstant, asInt, Sym, token, aName, aConstant, aResult, parameter, script, declared, integer, mainly, terminal, integerRule, declaredRule, globalRow, prepend, step}
 use Rattle.meaning.proofs.Builds.{never}
 use Rattle.meaning.proofs.Judge.{Outcome, accepted, refused, decide, judge}
 use Rattle.parser.specs.Seen.{isValued, isZero, kindOf, seen, isKind, isScalar, isResult, isConstant, pastStatic, mainFirst, isMain, pastMain}
 use Rattle.parser.specs.Steps.{anInitializer, parameters, anExtern, mainRest}
-use Rattle.parser.proofs.Look.{Kinded, Sees, sees-token, tokAt, sees, drop-lexemes, length-lexemes, stepping, refusing, skipping, alike, decide-onto}
+use Rattle.parser.proofs.Look.{Sees, sees-token, tokAt, sees, drop-lexemes, length-lexemes, stepping, refusing, skipping, alike, decide-onto}
 use Rattle.parser.proofs.Expect.{same-code, kind-seen, name-none, found, found-inside, word-at, at-none, expected, unexpected}
 use Rattle.parser.proofs.Expressions.{from}
-use Rattle.parser.proofs.Within.{scalar-inside}
 
 -- Classes of tokens.
 

@@ -1,12 +1,12 @@
 -- What the machine does with statements, for each way that the code takes.
-use Prim.Native.Nat.{ℕ, zero, suc, _+_, _<_, _≤_}
+use Prim.Native.Nat.{ℕ, suc, _+_, _<_, _≤_}
 use mathlib.Core.Bool.{Bool, true, false, cond, not}
 use mathlib.Core.List.{List, [], _∷_}
 use mathlib.Core.Logic.{_⊎_, inl, inr}
-use mathlib.Core.Path.{_≡_, refl, sym, _∙_, ap, subst}
+use mathlib.Core.Path.{_≡_, refl, sym, _∙_, ap}
 use native.Mathlib.Omega.{arith}
 use lib.Dec.{ltb}
-use lib.ListN.{length, drop}
+use lib.ListN.{length}
 use Rattle.std.specs.declared.option.Option.{Option}
 use Rattle.std.specs.declared.option.Option.the-variants.{Some, None}
 use Rattle.lexer.specs.declared.kind.Kind.{Kind}
@@ -14,16 +14,15 @@ use Rattle.lexer.specs.declared.kind.Kind.the-variants as Kinds
 use Rattle.lexer.specs.declared.kind.Token.{Token}
 use Rattle.meaning.specs.declared.operator.Scalar.{Scalar}
 use Rattle.meaning.specs.declared.operator.Scalar.the-variants.{Bool as bool, Char as char, Int as int}
-use Rattle.meaning.specs.declared.operator.Operator.the-variants.{Subtract}
-use Rattle.meaning.specs.Trees.{Ident, Constant, Modifier, plus, minus, times, over, modulo, both, either, evaluate, return, cons, nil}
-use Rattle.meaning.proofs.Tokens.{Word, OpenParen, CloseParen, OpenBrace, CloseBrace, Semicolon, If, Else, While, Do, For, Break, Continue, Return, Assign, Tok, name, value, type, operator, bang, modifier, word, stray}
-use Rattle.meaning.proofs.Stack.{at, isWord, Assigning, plainly, modifying, neither, assigning, Sym, token, operand, called, expr, statement, named, returned, statements, orelse, absent, Step, stop, on, onto, exprRule, evaluation, namedRule, returnedRule, statementRule, gather, tailsTo, Values, step, closed}
-use Rattle.meaning.proofs.Judge.{Outcome, refused, decide, judge}
+use Rattle.meaning.specs.Trees.{Ident, Modifier, plus, minus, times, over, modulo, both, either, evaluate, return, cons, nil}
+use Rattle.meaning.proofs.Tokens.{OpenParen, CloseParen, OpenBrace, CloseBrace, Semicolon, If, Else, While, Do, For, Break, Continue, Return, Assign, Tok, name, type, modifier, word}
+use Rattle.meaning.proofs.Stack.{neither, assigning, Sym, token, called, expr, statement, named, returned, statements, orelse, absent, Step, stop, exprRule, evaluation, statementRule, gather, tailsTo, step}
+use Rattle.meaning.proofs.Judge.{Outcome, refused, decide}
 use Rattle.parser.specs.declared.class.Lead.{Lead}
 use Rattle.parser.specs.declared.class.Lead.the-variants as L
 use Rattle.parser.specs.Seen.{seen, isKind, leadOf, assignsOf}
 use Rattle.parser.specs.Steps.{operands, terminated, aBlock, aDefinition, aBranch, aRepetition, aRound, aCount}
-use Rattle.parser.proofs.Look.{Kinded, Sees, tokAt, sees, stepping, refusing, skipping, alike, decide-onto}
+use Rattle.parser.proofs.Look.{Sees, tokAt, sees, stepping, refusing, skipping, alike, decide-onto}
 use Rattle.parser.proofs.Expect.{found, found-inside, word-at, at-none, expected}
 use Rattle.parser.proofs.Expressions.{from, deep, shallow, expression-is}
 

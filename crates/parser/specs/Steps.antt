@@ -2,7 +2,7 @@
 use Prim.Native.Nat.{ℕ, zero, suc, _+_}
 use mathlib.Core.List.{List, [], _∷_}
 use mathlib.Core.Path.{_≡_}
-use Rattle.std.specs.declared.option.Option.the-variants.{Some, None}
+use Rattle.std.specs.declared.option.Option.the-variants.{None}
 use lib.ListN.{drop}
 use Rattle.std.specs.declared.result.Result.{Result}
 use Rattle.std.specs.declared.result.Result.the-variants.{Ok, Err}
@@ -11,7 +11,7 @@ use Rattle.lexer.specs.declared.kind.Token.{Token}
 use Rattle.lexer.specs.Reading.{lexemes}
 use Rattle.lexer.specs.declared.kind.Kind.{Kind}
 use Rattle.lexer.specs.declared.kind.Kind.the-variants as K
-use Rattle.meaning.proofs.Tokens.{Word, OpenBrace, OpenParen, CloseParen, CloseBrace, Assign, Semicolon, To, While, wordKind}
+use Rattle.meaning.proofs.Tokens.{OpenBrace, OpenParen, CloseParen, CloseBrace, Assign, Semicolon, To, While, wordKind}
 use Rattle.meaning.proofs.Stack.{Sym, token, aName, aConstant, aResult, anInt, parameter, operand, called, tail, expr, exprs, further, arguments, statement, named, returned, statements, orelse, script, declared, integer, mainly, tailsTo}
 use Rattle.meaning.proofs.Judge.{Outcome, accepted, refused, judge}
 use Rattle.parser.specs.Seen.{pastMain}

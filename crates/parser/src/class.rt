@@ -1,6 +1,6 @@
 // What kinds of token are to the grammar.
 ghost use mathlib.Core.Path.{_≡_};
-ghost use Prim.Native.Nat.{ℕ, _<_};
+ghost use Prim.Native.Nat.{_<_};
 ghost use lib.ListN.{length};
 ghost use mathlib.Core.Bool.{true};
 ghost use Rattle.parser.specs.Seen.{seen, startOf, loosenessOf, Inside, leadOf, InsideLead, assignsOf, isScalar, isResult, isConstant};

@@ -1,6 +1,5 @@
 // Expressions: operands, and the operators between them by how loosely they bind.
-ghost use mathlib.Core.Path.{_≡_};
-ghost use Prim.Native.Nat.{ℕ, _+_, _<_, _≤_};
+ghost use Prim.Native.Nat.{_+_, _<_, _≤_};
 ghost use lib.ListN.{length};
 ghost use Rattle.std.specs.Vec.{made};
 ghost use Rattle.parser.specs.Steps.{Parses, operands, anOperand, anExpression, theArguments, prefixedBy, inBrackets, calledWith};

@@ -1,7 +1,7 @@
 // Scripts: externs and globals, then main.
 ghost use mathlib.Core.Bool.{true};
 ghost use mathlib.Core.Path.{_≡_};
-ghost use Prim.Native.Nat.{ℕ, _+_, _<_, _≤_};
+ghost use Prim.Native.Nat.{_+_, _<_, _≤_};
 ghost use lib.ListN.{length, take, drop};
 ghost use Rattle.std.specs.Vec.{made};
 ghost use Rattle.parser.specs.Seen.{pastStatic, isMain, pastMain};

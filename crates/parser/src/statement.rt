@@ -1,6 +1,5 @@
 // Statements, each with the depth it lies at.
-ghost use mathlib.Core.Path.{_≡_};
-ghost use Prim.Native.Nat.{ℕ, _+_, _<_, _≤_};
+ghost use Prim.Native.Nat.{_+_, _<_, _≤_};
 ghost use lib.ListN.{length};
 ghost use Rattle.std.specs.Vec.{made};
 ghost use Rattle.parser.specs.Steps.{Parses, aStatement, terminated, aCondition, aBlock, inBraces, aDefinition, aBranch, aRepetition, aRound, aCount};

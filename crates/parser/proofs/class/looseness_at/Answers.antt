@@ -1,4 +1,4 @@
-use mathlib.Core.Path.{sym, _∙_, ap}
+use mathlib.Core.Path.{_∙_, ap}
 use Rattle.parser.specs.Seen.{loosenessOf}
 use Rattle.parser.proofs.Within.{looseness-inside}
 use Rattle.parser.proofs.class.looseness_at.Needs as need

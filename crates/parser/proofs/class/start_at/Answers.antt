@@ -1,4 +1,4 @@
-use mathlib.Core.Path.{sym, _∙_, ap}
+use mathlib.Core.Path.{_∙_, ap}
 use Rattle.parser.specs.Seen.{startOf}
 use Rattle.parser.proofs.Within.{start-inside}
 use Rattle.parser.proofs.class.start_at.Needs as need

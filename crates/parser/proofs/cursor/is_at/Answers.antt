@@ -1,7 +1,5 @@
-use mathlib.Core.Path.{refl, _∙_, ap}
-use lib.Dec.{eqb}
+use mathlib.Core.Path.{refl}
 use Rattle.parser.proofs.Look.{tag-code}
-use Rattle.parser.specs.Seen.{code, isKind}
 use Rattle.parser.proofs.cursor.is_at.Needs as need
 
 pub returns-in-Some : need.returns-in-Some

@@ -1,8 +1,5 @@
-use mathlib.Core.Path.{_≡_, refl, sym}
-use mathlib.Core.List.{List}
-use Prim.Native.Nat.{ℕ}
+use mathlib.Core.Path.{refl, sym}
 use Rattle.std.proofs.shelf.Equals.{matches-decides}
-use Rattle.std.specs.Orderings.{Decides}
 use Rattle.meaning.specs.Written.{mainName}
 use Rattle.parser.proofs.Bytes.{main-is}
 use Rattle.parser.proofs.script.is_main.Needs as need
