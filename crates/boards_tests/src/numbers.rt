@@ -3,7 +3,7 @@ use refusal::Refusal;
 use std::test::*;
 
 // The refusal's number, 0 for an answer.
-pub fn refused<T: Drop>(said: Result<T, Refusal>) -> u8 {
+pub(crate) fn refused<T: Drop>(said: Result<T, Refusal>) -> u8 {
     match said {
         Ok(_) => 0,
         Err(refusal) => refusal.reason.number(),
@@ -11,7 +11,7 @@ pub fn refused<T: Drop>(said: Result<T, Refusal>) -> u8 {
 }
 
 // The answer; a refusal fails the test.
-pub fn answer<T>(said: Result<T, Refusal>) -> Result<T, Fail> {
+pub(crate) fn answer<T>(said: Result<T, Refusal>) -> Result<T, Fail> {
     match said {
         Ok(value) => Ok(value),
         Err(refusal) => Err(Fail::new(refusal.reason.number())),

@@ -14,6 +14,7 @@ pub record Held (X : Type 0) : Type 0 where
   pub held : List X
   pub most : ℕ
 
+-- a stack with these elements that can hold n
 abbrev pub holding : {X : Type 0} → List X → ℕ → Held X
 holding xs n = record { held = xs; most = n }
 
@@ -21,6 +22,7 @@ holding xs n = record { held = xs; most = n }
 abbrev pub seen : {X : Type 0} → BoundedStack X → Held X
 seen s = holding (take (s .len) (now (s .items))) (length (now (s .items)))
 
+-- whether one more element fits
 abbrev pub hasRoom : {X : Type 0} → Held X → Bool
 hasRoom h = ltb (length (h .held)) (h .most)
 

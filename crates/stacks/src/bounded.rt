@@ -4,6 +4,7 @@ ghost use denote.Ref.{now as behind};
 ghost use lib.ListN.{length};
 
 mod calls;
+mod height;
 
 // There is no room for one more element.
 #[derive(Clone, Copy)]

@@ -3,7 +3,7 @@ use boards::Board;
 use std::io;
 
 // Files the zones one after another until a report is refused, or no zone is left.
-pub fn file_zones<B: Board>(rt: &LibcRuntime, board: &mut B) -> io::Result<()> {
+pub(crate) fn file_zones<B: Board>(rt: &LibcRuntime, board: &mut B) -> io::Result<()> {
     for i in 0..i32::MAX {
         let Ok(zone) = board.zone(i) else {
             return Ok(());
@@ -20,7 +20,7 @@ pub fn file_zones<B: Board>(rt: &LibcRuntime, board: &mut B) -> io::Result<()> {
 }
 
 // Every report that the board kept.
-pub fn print_kept<B: Board>(rt: &LibcRuntime, board: &mut B) -> io::Result<()> {
+pub(crate) fn print_kept<B: Board>(rt: &LibcRuntime, board: &mut B) -> io::Result<()> {
     for k in 0..usize::MAX {
         let Some(report) = board.kept(k) else {
             return Ok(());

@@ -15,7 +15,7 @@ fn print_row<B: Board>(rt: &LibcRuntime, board: &mut B, first: i32) -> io::Resul
 }
 
 // Every row.
-pub fn print_table<B: Board>(rt: &LibcRuntime, board: &mut B) -> io::Result<()> {
+pub(crate) fn print_table<B: Board>(rt: &LibcRuntime, board: &mut B) -> io::Result<()> {
     let columns = i32::try_from(board.columns()).unwrap_or(0);
     let rows = i32::try_from(board.rows()).unwrap_or(0);
     for row in 0..rows {

@@ -27,13 +27,6 @@ impl<'a, T: Copy> BoundedStack<'a, T> {
         BoundedStack { items, len: 0 }
     }
 
-    // How many elements there are.
-    pub fn len(&self) -> usize
-        ensures { λ r. ⌜ r ≡ length (seen (now (self .entry)) .held) ⌝ }
-    {
-        self.len
-    }
-
     // Puts `x` on top; a full stack stays as it is.
     pub fn push(&mut self, x: T) -> Result<(), Full>
         ensures answer { λ r. ⌜ isOk r ≡ hasRoom (seen (now (self .entry))) ⌝ }
