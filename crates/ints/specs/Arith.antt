@@ -13,10 +13,12 @@ use Rattle.ints.specs.declared.operator.Operator.the-variants.{Add, Sub, Mul, 
 use Rattle.ints.specs.declared.operator.Unary.{Unary}
 use Rattle.ints.specs.declared.operator.Unary.the-variants.{Low, Not}
 
+-- whether a number is 0
 abbrev pub isZero : ℤ → Bool
 isZero (pos n) = eqb n 0
 isZero (negsuc n) = false
 
+-- whether two numbers are equal
 abbrev pub equalZ : ℤ → ℤ → Bool
 equalZ (pos a) (pos b) = eqb a b
 equalZ (pos a) (negsuc b) = false
@@ -31,9 +33,11 @@ flag b = cond b (pos 1) (pos 0)
 abbrev pub addZ : Width → ℤ → ℤ → ℤ
 addZ w l r = wrapped w (l +ℤ r)
 
+-- a difference
 abbrev pub subZ : Width → ℤ → ℤ → ℤ
 subZ w l r = wrapped w (l -ℤ r)
 
+-- a product
 abbrev pub mulZ : Width → ℤ → ℤ → ℤ
 mulZ w l r = wrapped w (l *ℤ r)
 

@@ -32,6 +32,7 @@ pub data Query : Type 0 where
   rows : Query
   report : Query
 
+-- what an instruction does
 pub data Operation : Type 0 where
   plain : Plain → Operation
   ask : Query → Operation
@@ -52,10 +53,12 @@ operations a =
     ∷ ask zone ∷ ask columns ∷ ask rows ∷ ask report
     ∷ plain give ∷ []
 
+-- the operation of a code with an operand; any other code is unknown
 abbrev pub decode : ℤ → ℤ → Operation
 decode (pos n) a = getD (operations a) n unknown
 decode (negsuc n) a = unknown
 
+-- the operation of an instruction
 abbrev pub operationOf : Instruction → Operation
 operationOf i = decode (i .code) (i .operand)
 
@@ -73,5 +76,6 @@ abbrev pub placeOf : Option Instruction → ℤ
 placeOf None = pos 0
 placeOf (Some i) = i .place
 
+-- the place of the instruction at position k, 0 where there is none
 abbrev pub placeAt : List Instruction → ℕ → ℤ
 placeAt code k = placeOf (nth code k)

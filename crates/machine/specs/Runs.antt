@@ -20,6 +20,7 @@ pub record Ran : Type 0 where
   pub state : State
   pub carried : ℕ
 
+-- a run with its outcome, last state and count
 abbrev pub ran : How → State → ℕ → Ran
 ran h u n = record { how = h; state = u; carried = n }
 
@@ -115,6 +116,7 @@ keptAt k ticks u n o = record {
   over = o;
 }
 
+-- what a call answers and keeps, from how its run came out
 abbrev pub called : Kept → ℕ → List Instruction → Ran → Call
 called k ticks code r = record {
   end = endAs (r .how);
@@ -127,6 +129,7 @@ called k ticks code r = record {
 abbrev pub again : Over → Kept → Meaning → Call
 again o k b = record { end = o .end; place = o .place; kept = k; board = b }
 
+-- a run that is not over goes on; one that is over stays so
 abbrev pub callFrom : Option Over → List Instruction → Kept → Meaning → ℕ → Call
 callFrom None code k b ticks = called k ticks code (run code (begun k b ticks))
 callFrom (Some o) code k b ticks = again o k b
@@ -142,6 +145,7 @@ pub record Said : Type 0 where
   pub spent : ℕ
   pub counted : ℕ
 
+-- what a call tells
 abbrev pub says : Call → Said
 says r = record { end = r .end; place = r .place; spent = r .kept .spent; counted = r .kept .counted }
 
@@ -150,15 +154,18 @@ pub data Turn : Type 0 where
   on : ℕ → Kept → Meaning → Turn
   off : Said → Kept → Meaning → Turn
 
+-- the step was the last of the run
 abbrev pub closed : Call → Turn
 closed c = off (says c) (c .kept) (c .board)
 
+-- what a step comes to; one that goes on counts 1
 abbrev pub turned : Kept → ℕ → List Instruction → Next → Turn
 turned k ticks code (go v) = on (v .left) (keptAt k ticks v 1 None) (v .board)
 turned k ticks code (stop e v) = closed (called k ticks code (ran (ends e) v 1))
 turned k ticks code (wait v) = closed (called k ticks code (ran waits v 0))
 turned k ticks code (break v) = closed (called k ticks code (ran breaks v 0))
 
+-- a step of a run that is not over; one that is over stays so
 abbrev pub turnFrom : Option Over → List Instruction → Kept → Meaning → ℕ → Turn
 turnFrom None code k b ticks = turned k ticks code (step code (begun k b ticks))
 turnFrom (Some o) code k b ticks = closed (again o k b)

@@ -20,6 +20,7 @@ pub record State : Type 0 where
   pub left : ℕ
   pub board : Meaning
 
+-- the state with this store, position, ticks left and board
 abbrev pub at : Store → ℕ → ℕ → Meaning → State
 at m p l b = record { store = m; position = p; left = l; board = b }
 
@@ -46,6 +47,7 @@ abbrev pub jumped : List Instruction → ℤ → List ℤ → State → Next
 jumped code (pos t) s u = cond (mayLand code (u .position) t) (go (goTo u s t)) (break u)
 jumped code (negsuc t) s u = break u
 
+-- a jump is taken where the top value is 0; the value goes either way
 abbrev pub branched : List Instruction → ℤ → List ℤ → State → Next
 branched code a [] u = break u
 branched code a (v ∷ s) u = cond (isZero v) (jumped code a s u) (go (goTo u s (u .position + 1)))
@@ -55,6 +57,7 @@ abbrev pub ticked : ℕ → State → Next
 ticked zero u = wait u
 ticked (suc l) u = go (at (u .store) (u .position + 1) l (u .board))
 
+-- what an operation makes of a state
 abbrev pub performed : List Instruction → State → Operation → Next
 performed code u (plain o) = moved (exec o (u .store) .how) u (exec o (u .store) .store) (u .board)
 performed code u (ask q) = moved (answer q (u .store) (u .board) .did .how) u (answer q (u .store) (u .board) .did .store) (answer q (u .store) (u .board) .board)
@@ -63,9 +66,11 @@ performed code u (jumpIfZero a) = branched code a (u .store .stack) u
 performed code u tick = ticked (u .left) u
 performed code u unknown = break u
 
+-- where no instruction stands the run is broken
 abbrev pub fetched : List Instruction → State → Option Instruction → Next
 fetched code u None = break u
 fetched code u (Some i) = performed code u (operationOf i)
 
+-- one step: the instruction at the position is carried out
 abbrev pub step : List Instruction → State → Next
 step code u = fetched code u (nth code (u .position))

@@ -29,18 +29,22 @@ abbrev pub tops : List ℤ → ℕ → List ℤ
 tops xs zero = []
 tops xs (suc n) = getD xs n (pos 0) ∷ tops xs n
 
+-- the cells and values that a memory has, with so many values
 abbrev pub storeOf : Memory → ℕ → Store
 storeOf m height = record { cells = m .cells; stack = tops (m .values) height }
 
+-- the state that memory, cursor and board stand for
 abbrev pub stateOf : Memory → Cursor → Meaning → State
 stateOf m c b = at (storeOf m (c .height)) (c .position) (c .left) b
 
+-- how a step came out, as the code says it
 abbrev pub howOf : Flow → How
 howOf Goes = goes
 howOf Waits = waits
 howOf (Ends e) = ends (endOf e)
 howOf Breaks = breaks
 
+-- how a step came out, with its state
 abbrev pub nextOf : Flow → State → Next
 nextOf Goes u = go u
 nextOf Waits u = wait u
@@ -66,10 +70,12 @@ pub record Asks (a : Reply) (from : Cursor) (r : Moved) (m : Memory) (b : Meanin
   pub moves : Moves (a .did) from r m
   pub board : b ≡ a .board
 
+-- how a run is over, as a machine keeps it
 abbrev pub overOf : Option Ended → Option Over
 overOf None = None
 overOf (Some o) = Some (record { end = endOf (o .ending); place = o .place })
 
+-- what a machine keeps between runs
 abbrev pub keeps : Machine → Kept
 keeps m = record {
   cells = m .memory .cells;
@@ -80,6 +86,7 @@ keeps m = record {
   over = overOf (m .over);
 }
 
+-- what an answer tells
 abbrev pub saidOf : Answer → Said
 saidOf a = record { end = endOf (a .ending); place = a .place; spent = a .spent; counted = a .counted }
 
@@ -102,6 +109,7 @@ settled m code h ticks = (
   },
 )
 
+-- an answer and a machine are those of s
 pub record Settled (s : Said × Kept) (r : Answer) (m : Machine) : Type 0 where
   pub answer : saidOf r ≡ s .0
   pub after : keeps m ≡ s .1

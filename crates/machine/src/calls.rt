@@ -25,7 +25,6 @@ impl Machine {
     // A machine before its first instruction.
     pub fn new() -> Machine
         ensures fresh { λ r. ⌜ keeps r ≡ fresh ⌝ }
-        ensures bounded { λ _. ⌜ Bounded ⌝ }
     {
         Machine {
             memory: Memory {
@@ -56,6 +55,7 @@ impl Machine {
         ensures waits { λ _. ⌜ Waits ⌝ }
         ensures resumes { λ _. ⌜ Resumes ⌝ }
         ensures stays { λ _. ⌜ Stays ⌝ }
+        ensures bounded { λ _. ⌜ Bounded ⌝ }
     {
         if let Some(ended) = self.over {
             return self.answer(ended.ending, ended.place);

@@ -137,10 +137,12 @@ unfoldable pub declared : Ident → Option Callee → Scope → Told Scope
 declared x None Γ = refused 11 (x .place)
 declared x (Some f) Γ = then (needs (cond (definedHere (x .bytes) Γ) false true) 12 (x .place)) (λ _. accepted (function f ∷ Γ))
 
+-- an extern or a global, and the names in force after it
 unfoldable pub checkItem : Item → Scope → Told Scope
 checkItem (extern q t x a) Γ = declared x (listed (x .bytes) t (parameterTypes a)) Γ
 checkItem (global s q t x c) Γ = then (needs (sameType (constantType c) t) 15 (x .place)) (λ _. defined x t Γ)
 
+-- externs and globals, one after another
 unfoldable pub checkItems : List Item → Scope → Told Scope
 checkItems [] Γ = accepted Γ
 checkItems (i ∷ is) Γ = then (checkItem i Γ) (λ Δ. checkItems is Δ)

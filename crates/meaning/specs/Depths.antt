@@ -51,18 +51,22 @@ unfoldable mutual
 
 -- outside main's braces nothing has a depth
 
+-- of a parameter
 abbrev pub parameterDepths : Parameter → List ℕ → List ℕ
 parameterDepths nothing r = r
 parameterDepths (takes t p x) r = 0 ∷ 0 ∷ r
 
+-- of `static`, where it stands
 abbrev pub staticDepths : Option ℕ → List ℕ → List ℕ
 staticDepths none r = r
 staticDepths (some p) r = 0 ∷ r
 
+-- of an extern or a global
 abbrev pub itemDepths : Item → List ℕ → List ℕ
 itemDepths (extern q t x a) r = 0 ∷ 0 ∷ 0 ∷ 0 ∷ parameterDepths a (0 ∷ 0 ∷ r)
 itemDepths (global s q t x c) r = staticDepths s (0 ∷ 0 ∷ 0 ∷ 0 ∷ 0 ∷ r)
 
+-- of externs and globals, one after another
 unfoldable pub itemsDepths : List Item → List ℕ → List ℕ
 itemsDepths [] r = r
 itemsDepths (i ∷ is) r = itemDepths i (itemsDepths is r)

@@ -41,9 +41,11 @@ pub record State : Type 0 where
   pub left : ℕ
   pub spent : ℕ
 
+-- the same state with other names in force
 abbrev pub withNames : State → Names Value → State
 withNames S ns = record { names = ns; board = S .board; left = S .left; spent = S .spent }
 
+-- the same state with another board
 abbrev pub withBoard : State → Meaning → State
 withBoard S b = record { names = S .names; board = b; left = S .left; spent = S .spent }
 
@@ -63,6 +65,7 @@ result (gives v) p S = comes-to v S
 result zero-divisor p S = ends divided p S
 result mistyped p S = ends stuck 0 S
 
+-- the value of the variable that a name means
 unfoldable pub readVariable : Meant Value → State → Evaluated Value
 readVariable absent S = ends stuck 0 S
 readVariable (a-variable v) S = comes-to v S
@@ -97,6 +100,7 @@ invoke report (of-bool b ∷ vs) p S = ends stuck 0 S
 invoke report (of-char c ∷ vs) p S = ends stuck 0 S
 invoke main vs p S = ends stuck 0 S
 
+-- a call of the function that a name means
 unfoldable pub invokeMeant : Meant Value → List Value → (place : ℕ) → State → Evaluated (Option Value)
 invokeMeant absent vs p S = ends stuck 0 S
 invokeMeant (a-variable v) vs p S = ends stuck 0 S
@@ -168,6 +172,7 @@ asInt (of-bool b) f S = ended stuck 0 S
 asInt (of-char c) f S = ended stuck 0 S
 asInt (of-int n) f S = f n S
 
+-- the state with the newest level left
 unfoldable pub outside : State → State
 outside S = withNames S (leave (S .names))
 
@@ -188,6 +193,7 @@ store absent x v S = ended stuck 0 S
 store (a-variable w) x v S = next (withNames S (assigned x v (S .names)))
 store (a-function f) x v S = ended stuck 0 S
 
+-- a variable with its value is in force from here on
 unfoldable pub defining : List ℕ → Value → State → Flow
 defining x v S = next (withNames S (Scopes.variable x v ∷ S .names))
 
@@ -209,6 +215,7 @@ unfoldable pub loop : ℕ → (place : ℕ) → (State → Flow) → State → F
 loop zero p round S = ended waiting p S
 loop (suc n) p round S = spend (S .left) p (λ N. again (round N) (λ K. loop n p round K)) S
 
+-- a loop, with the ticks that are left
 unfoldable pub looping : (place : ℕ) → (State → Flow) → State → Flow
 looping p round S = loop (S .left) p round S
 
@@ -224,6 +231,7 @@ pub data Counting : Type 0 where
   counts : List ℕ → (current bound : ℤ) → Names Value → Counting
   no-count : Counting
 
+-- what the newest level counts, if it is that of a `for`
 unfoldable pub counting : Names Value → Counting
 counting [] = no-count
 counting (level ∷ r) = no-count
@@ -292,6 +300,7 @@ unfoldable pub declareListed : Option Callee → Names Value → Names Value
 declareListed None ns = ns
 declareListed (Some f) ns = function f ∷ ns
 
+-- the names in force after externs and globals
 unfoldable pub declareItems : List Item → Names Value → Names Value
 declareItems [] ns = ns
 declareItems (extern q t x a ∷ is) ns = declareItems is (declareListed (listed (x .bytes) t (parameterTypes a)) ns)
@@ -304,6 +313,7 @@ pub record Outcome : Type 0 where
   pub spent : ℕ
   pub board : Meaning
 
+-- a run that ends so at a place, in a state
 abbrev pub outcome : Ending → ℕ → State → Outcome
 outcome e p S = record { ending = e; place = p; spent = S .spent; board = S .board }
 

@@ -9,6 +9,7 @@ use lib.Dec.{eqb}
 pub data Callee : Type 0 where
   zone columns rows report main : Callee
 
+-- the bytes of its name
 abbrev pub calleeName : Callee → List ℕ
 calleeName zone = codes "zone"
 calleeName columns = codes "columns"

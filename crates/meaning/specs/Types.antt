@@ -11,6 +11,7 @@ use Rattle.meaning.specs.declared.operator.Operator.the-variants.{Add, Subtrac
 use Rattle.meaning.specs.Trees.{Constant, number, character, truth, Unary, negate, invert, Modifier, plus, minus, times, over, modulo, both, either, Return, void, gives, Parameter, nothing, takes}
 use Rattle.meaning.specs.Scopes.{Callee, zone, columns, rows, report, main, calleeName, sameName}
 
+-- whether two types are equal
 abbrev pub sameType : Scalar → Scalar → Bool
 sameType bool bool = true
 sameType bool char = false
@@ -26,6 +27,7 @@ sameType int int = true
 pub data Class : Type 0 where
   arithmetic relation equality logic : Class
 
+-- the class of each operator
 abbrev pub classOf : Operator → Class
 classOf Add = arithmetic
 classOf Subtract = arithmetic
@@ -68,6 +70,7 @@ unaryResult invert bool = Some bool
 unaryResult invert char = None
 unaryResult invert int = None
 
+-- the type of a constant
 abbrev pub constantType : Constant → Scalar
 constantType (number v p) = int
 constantType (character v p) = char
@@ -96,12 +99,14 @@ signature rows = record { parameters = []; result = gives int }
 signature report = record { parameters = int ∷ []; result = void }
 signature main = record { parameters = []; result = gives int }
 
+-- whether two lists of types are equal
 unfoldable pub sameTypes : List Scalar → List Scalar → Bool
 sameTypes [] [] = true
 sameTypes [] (t ∷ ts) = false
 sameTypes (s ∷ ss) [] = false
 sameTypes (s ∷ ss) (t ∷ ts) = sameType s t && sameTypes ss ts
 
+-- whether two functions give the same
 abbrev pub sameReturn : Return → Return → Bool
 sameReturn void void = true
 sameReturn void (gives t) = false

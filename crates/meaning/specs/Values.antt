@@ -17,11 +17,13 @@ pub data Value : Type 0 where
   of-char : ℤ → Value
   of-int : ℤ → Value
 
+-- the type of a value
 abbrev pub valueType : Value → Scalar
 valueType (of-bool b) = bool
 valueType (of-char c) = char
 valueType (of-int n) = int
 
+-- the value of a constant
 abbrev pub constantValue : Constant → Value
 constantValue (number v p) = of-int v
 constantValue (character v p) = of-char v
@@ -40,6 +42,7 @@ pub data Pair : Type 0 where
   ints : ℤ → ℤ → Pair
   mixed : Pair
 
+-- two values as a pair of one type, or mixed
 abbrev pub pair : Value → Value → Pair
 pair (of-bool a) (of-bool b) = bools a b
 pair (of-bool a) (of-char b) = mixed
@@ -65,12 +68,14 @@ division f (chars a b) = cond (isZero b) zero-divisor (gives (of-char (f w8 a b)
 division f (ints a b) = cond (isZero b) zero-divisor (gives (of-int (f w32 a b)))
 division f mixed = mistyped
 
+-- chars and ints are compared by their numbers
 unfoldable pub relation : (ℤ → ℤ → Bool) → Pair → Result
 relation f (bools a b) = mistyped
 relation f (chars a b) = gives (of-bool (f a b))
 relation f (ints a b) = gives (of-bool (f a b))
 relation f mixed = mistyped
 
+-- whether two truth values are equal
 abbrev pub sameTruth : Bool → Bool → Bool
 sameTruth true b = b
 sameTruth false b = not b
@@ -82,6 +87,7 @@ equality f (chars a b) = gives (of-bool (f (equalZ a b)))
 equality f (ints a b) = gives (of-bool (f (equalZ a b)))
 equality f mixed = mistyped
 
+-- two truth values are joined
 unfoldable pub logic : (Bool → Bool → Bool) → Pair → Result
 logic f (bools a b) = gives (of-bool (f a b))
 logic f (chars a b) = mistyped
@@ -110,6 +116,7 @@ pub data Decided : Type 0 where
   decided : Value → Decided
   open-still : Decided
 
+-- what the left operand of each operator decides
 unfoldable pub shortCircuit : Operator → Value → Decided
 shortCircuit Add v = open-still
 shortCircuit Subtract v = open-still

@@ -36,10 +36,12 @@ typeKind bool = K.Bool
 typeKind char = K.Char
 typeKind int = K.Int
 
+-- the mark of a prefix operator
 abbrev pub unaryKind : Unary → Kind
 unaryKind negate = K.Minus
 unaryKind invert = K.Not
 
+-- the mark of an operator
 abbrev pub binaryKind : Operator → Kind
 binaryKind Add = K.Plus
 binaryKind Subtract = K.Minus
@@ -55,6 +57,7 @@ binaryKind NotEqual = K.NotEqual
 binaryKind And = K.And
 binaryKind Or = K.Or
 
+-- the mark of a modifier
 abbrev pub modifierKind : Modifier → Kind
 modifierKind plus = K.PlusAssign
 modifierKind minus = K.MinusAssign
@@ -110,10 +113,12 @@ unfoldable mutual
   stmtsLexemes nil r = r
   stmtsLexemes (cons s ss) r = stmtLexemes s (stmtsLexemes ss r)
 
+-- the keyword of what a function gives
 abbrev pub returnKind : Return → Kind
 returnKind void = K.Void
 returnKind (gives t) = typeKind t
 
+-- a parameter, where there is one
 abbrev pub parameterLexemes : Parameter → List Lexeme → List Lexeme
 parameterLexemes nothing r = r
 parameterLexemes (takes t p x) r = sign (typeKind t) p ∷ ident x ∷ r
@@ -123,6 +128,7 @@ abbrev pub staticLexemes : Option ℕ → List Lexeme → List Lexeme
 staticLexemes none r = r
 staticLexemes (some p) r = sign K.Static p ∷ r
 
+-- an extern or a global
 abbrev pub itemLexemes : Item → List Lexeme → List Lexeme
 itemLexemes (extern q t x a) r =
     sign K.Extern (q .0) ∷ sign (returnKind t) (q .1) ∷ ident x ∷ sign K.OpenParen (q .2)
@@ -130,6 +136,7 @@ itemLexemes (extern q t x a) r =
 itemLexemes (global s q t x c) r =
     staticLexemes s (sign (typeKind t) (q .0) ∷ ident x ∷ sign K.Assign (q .1) ∷ literal c ∷ sign K.Semicolon (q .2) ∷ r)
 
+-- externs and globals, one after another
 unfoldable pub itemsLexemes : List Item → List Lexeme → List Lexeme
 itemsLexemes [] r = r
 itemsLexemes (i ∷ is) r = itemLexemes i (itemsLexemes is r)

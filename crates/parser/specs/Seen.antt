@@ -121,6 +121,7 @@ isValued K.CloseBrace = false
 isValued K.Comma = false
 isValued K.Semicolon = false
 
+-- whether a number is 0
 abbrev pub isZero : ℤ → Bool
 isZero (pos zero) = true
 isZero (pos (suc n)) = false
@@ -130,10 +131,12 @@ isZero (negsuc n) = false
 abbrev pub kindOf : Token → Option Kind
 kindOf t = cond (isValued (t .kind) || isZero (t .value)) (Some (t .kind)) None
 
+-- the kind of the first of some tokens
 abbrev pub firstKind : List Token → Option Kind
 firstKind [] = None
 firstKind (t ∷ ts) = kindOf t
 
+-- the kind of the token at a position, none past the end
 abbrev pub seen : List Token → ℕ → Option Kind
 seen ts at = firstKind (drop at ts)
 
@@ -539,11 +542,12 @@ isConstant (Some K.Semicolon) = false
 abbrev pub pastStatic : List Token → ℕ → ℕ
 pastStatic ts i = cond (isKind (seen ts i) K.Static) (i + 1) i
 
--- whether the token at i is the name `main`
+-- whether the first of some tokens is the name `main`
 abbrev pub mainFirst : List ℕ → List Token → Bool
 mainFirst s [] = false
 mainFirst s (t ∷ ts) = isKind (kindOf t) K.Name && sameBytes (take (t .length) (drop (t .place) s)) mainName
 
+-- whether the token at i is the name `main`
 abbrev pub isMain : List ℕ → List Token → ℕ → Bool
 isMain s ts i = mainFirst s (drop i ts)
 

@@ -19,6 +19,7 @@ use Rattle.parser.specs.Verdict.{endPlace}
 use Rattle.parser.specs.declared.fault.Fault.{Fault}
 use Rattle.parser.specs.declared.fault.Fault.the-variants.{Unexpected, TooDeep}
 
+-- a fault as an outcome of the machine
 abbrev pub faulted : Fault → Outcome
 faulted (Unexpected k) = refused 9 k
 faulted (TooDeep k) = refused 10 k
@@ -61,9 +62,11 @@ Wants (declared s) k = ⊥
 Wants (integer s p) k = ⊥
 Wants (mainly s p q) k = ⊥
 
+-- an operand at depth d
 abbrev pub anOperand : ℕ → List Sym → List Sym
 anOperand d K = operand d ∷ K
 
+-- an expression at depth d
 abbrev pub anExpression : ℕ → List Sym → List Sym
 anExpression d K = expr d ∷ K
 
@@ -77,17 +80,21 @@ theArguments d K = arguments d ∷ token CloseParen ∷ K
 
 -- Each of these, one deeper than an operand at depth d: under a prefix operator, in brackets, as arguments.
 
+-- what stands under a prefix operator
 abbrev pub prefixedBy : ℕ → List Sym → List Sym
 prefixedBy d K = operand (d + 1) ∷ K
 
+-- an expression in brackets, after `(`
 abbrev pub inBrackets : ℕ → List Sym → List Sym
 inBrackets d K = expr (d + 1) ∷ token CloseParen ∷ K
 
+-- what follows the `(` of a call
 abbrev pub calledWith : ℕ → List Sym → List Sym
 calledWith d K = theArguments (d + 1) K
 
 -- Statements; depths in a statement at depth d.
 
+-- a statement at depth d
 abbrev pub aStatement : ℕ → List Sym → List Sym
 aStatement d K = statement d ∷ K
 
@@ -158,6 +165,7 @@ abbrev pub outcomeOf : Result (Unit {0}) Fault → Outcome
 outcomeOf (Ok u) = accepted
 outcomeOf (Err f) = faulted f
 
+-- a whole script
 abbrev pub aScript : List Sym
 aScript = script ∷ []
 
@@ -167,11 +175,12 @@ placeBy [] n k = endPlace n
 placeBy (l ∷ ls) n zero = l .place
 placeBy (l ∷ ls) n (suc k) = placeBy ls n k
 
--- the number and the token of a fault
+-- the number of a fault
 abbrev pub faultNumber : Fault → ℕ
 faultNumber (Unexpected k) = 9
 faultNumber (TooDeep k) = 10
 
+-- the token of a fault
 abbrev pub faultAt : Fault → ℕ
 faultAt (Unexpected k) = k
 faultAt (TooDeep k) = k

@@ -8,7 +8,7 @@ use Rattle.machine.specs.Runs.{Call, callFrom, call, says}
 use Rattle.machine.specs.Views.{overOf, keeps}
 use Rattle.machine.proofs.Calling.{call-is, left-within}
 use Rattle.machine.proofs.Equations.{every-ends}
-use Rattle.machine.proofs.Resuming.{waits-or-over, resumes, stays}
+use Rattle.machine.proofs.Resuming.{waits-or-over, resumes, stays, bounded}
 use Rattle.machine.proofs.machine.Machine.run.Needs as need
 
 pub returns-in-Some : need.returns-in-Some
@@ -24,6 +24,7 @@ returns-in-Some g c =
       waits = waits-or-over;
       resumes = resumes;
       stays = stays;
+      bounded = bounded;
     }
 
 pub settle-requires : need.settle-requires
@@ -46,4 +47,5 @@ returns g c =
       waits = waits-or-over;
       resumes = resumes;
       stays = stays;
+      bounded = bounded;
     }
