@@ -3,9 +3,9 @@ use Rattle.std.proofs.lemmas.Int.{to_z-of_z}
 use Rattle.boards.proofs.Crops.{zone_unnumbered, zone_below, zone_absent}
 use Rattle.boards.proofs.crop.zone_or_0.Goals as goal
 
-pub returns-in-default : goal.returns-in-default
-returns-in-default g c = record {
-  value = λ p e. zone_unnumbered (g.B.Board.meaning c.args.board.now) p (sym c.in-default.is ∙ e);
+pub returns-in_default : goal.returns-in_default
+returns-in_default g c = record {
+  value = λ p e. zone_unnumbered (g.B.Board.meaning c.args.board.now) p (sym c.in_default.is ∙ e);
   same = refl;
 }
 

@@ -15,7 +15,7 @@ loop-byte-preserved c =
     let here : c.from-sum.result ≡ get_or bytes (start + i) 0
     = c.from-sum.ensures ∙ run_at bytes start _ _ i c.min-from.ensures c.loop-byte-test.true in
     let more = sum_of_more i (λ x. get_or bytes (start + x) 0) in
-    (omega (arith, c.loop-byte.invariant.0, more, here), omega (arith, c.loop-byte.invariant.1, here, c.type-inv.bytes (start + i)))
+    (omega (arith, c.loop-byte.invariant.0, more, here), omega (arith, c.loop-byte.invariant.1, here, c.type_inv.bytes (start + i)))
 
 pub returns : goal.returns
 returns c =

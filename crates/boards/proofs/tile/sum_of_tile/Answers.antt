@@ -10,8 +10,8 @@ loop-y-init c = (sym (sum_of-none _), omega arith)
 pub loop-y-preserved : goal.loop-y-preserved
 loop-y-preserved c =
     let line = line_sum c.args.bytes.now c.args.columns c.args.i in
-    let here : c.line-sum-sum.result ≡ line c.loop-y.y
-    = (rw c.line-start.ensures at c.line-sum-sum.ensures.sum) ∙ line_is c.args.bytes.now c.args.columns c.args.i c.loop-y.y in
+    let here : c.line_sum-sum.result ≡ line c.loop-y.y
+    = (rw c.line_start.ensures at c.line_sum-sum.ensures.sum) ∙ line_is c.args.bytes.now c.args.columns c.args.i c.loop-y.y in
     (omega (arith, c.loop-y.invariant.0, sum_of_more c.loop-y.y line, here), omega arith)
 
 pub returns : goal.returns

@@ -3,8 +3,8 @@ use Rattle.engine.specs.Checked.{means}
 use Rattle.engine.proofs.Checking.{fits, check_fails}
 use Rattle.engine.proofs.check.fennec_check.Goals as goal
 
-pub overflow-add-result : goal.overflow-add-result
-overflow-add-result c = omega (arith, fits c.args.source.now _ _ c.in-Err.ensures.answer.1 c.number.result c.number.type-inv)
+pub overflow_add-result : goal.overflow_add-result
+overflow_add-result c = omega (arith, fits c.args.source.now _ _ c.in-Err.ensures.answer.1 c.number.result c.number.type_inv)
 
 pub returns-in-Ok : goal.returns-in-Ok
 returns-in-Ok c =

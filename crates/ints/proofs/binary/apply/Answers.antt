@@ -14,6 +14,6 @@ returns-in-Mul c = search (rules, wraps)
 
 pub returns-else-r-eq0 : goal.returns-else-r-eq0
 returns-else-r-eq0 c =
-    let q = c.wrapping-div.result in
+    let q = c.wrapping_div.result in
     let f : SFits w32 q = search rules in
-    rw c.in-Div.is (quotient_is c.args.l c.args.r q c.ranges.l c.ranges.r f c.if-r-eq0.false c.wrapping-div.ensures)
+    rw c.in-Div.is (quotient_is c.args.l c.args.r q c.ranges.l c.ranges.r f c.if-r-eq0.false c.wrapping_div.ensures)

@@ -15,7 +15,7 @@ returns-in-48 c =
     let n : c.length.result ≡ prefix_len is_hexadecimal (drop 3 c.args.rest.now) = c.length.ensures.same ∙ ap (prefix_len is_hexadecimal) (take_rest c.args.rest.now 3) in
     c.numeral.ensures ∙ sym (hexadecimal_front c.args.rest.now c.length.result far o d n)
 
-pub returns-in-default : goal.returns-in-default
-returns-in-default c =
+pub returns-in_default : goal.returns-in_default
+returns-in_default c =
     let o : opens_hexadecimal c.args.rest.now ≡ false = grind (arith, nat_tests, get_or_past c.args.rest.now 2 0) in
-    c.numeral-in-default.ensures ∙ sym (decimal_front c.args.rest.now c.length-in-default.result o c.length-in-default.ensures.same)
+    c.numeral-in_default.ensures ∙ sym (decimal_front c.args.rest.now c.length-in_default.result o c.length-in_default.ensures.same)

@@ -25,11 +25,11 @@ found_front c = rest_front c.args.source.now c.args.at _ c.in-Ok.ensures
 found_bounds : (c : goal.In-Ok) → (0 < c.in-Ok.found.length) × (c.args.at + c.in-Ok.found.length ≤ length c.args.source.now) × (c.in-Ok.found.value ≤ greatest)
 found_bounds c = rest_bounds c.args.source.now c.args.at _ _ _ c.requires.within (found_front c)
 
-pub overflow-cast-result : goal.overflow-cast-result
-overflow-cast-result c = record { fits = omega (arith, found_bounds c, c.requires.short) }
+pub overflow_cast-result : goal.overflow_cast-result
+overflow_cast-result c = record { fits = omega (arith, found_bounds c, c.requires.short) }
 
-pub overflow-cast-result-in-Ok : goal.overflow-cast-result-in-Ok
-overflow-cast-result-in-Ok c = record { sfits = omega (arith, found_bounds c) }
+pub overflow_cast-result-in-Ok : goal.overflow_cast-result-in-Ok
+overflow_cast-result-in-Ok c = record { sfits = omega (arith, found_bounds c) }
 
 pub returns-in-Ok : goal.returns-in-Ok
 returns-in-Ok c =

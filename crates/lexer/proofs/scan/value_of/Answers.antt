@@ -5,11 +5,11 @@ use Rattle.lexer.specs.Constants.{value_of, digit_value}
 use Rattle.lexer.proofs.Numerals.{product_fits, cut_step}
 use Rattle.lexer.proofs.scan.value_of.Goals as goal
 
-pub overflow-mul-value : goal.overflow-mul-value
-overflow-mul-value c = record { fits = omega (arith, product_fits c.loop-d.value c.args.base (omega arith) (omega arith)) }
+pub overflow_mul-value : goal.overflow_mul-value
+overflow_mul-value c = record { fits = omega (arith, product_fits c.loop-d.value c.args.base (omega arith) (omega arith)) }
 
-pub overflow-add-value : goal.overflow-add-value
-overflow-add-value c = record { fits = omega (arith, product_fits c.loop-d.value c.args.base (omega arith) (omega arith)) }
+pub overflow_add-value : goal.overflow_add-value
+overflow_add-value c = record { fits = omega (arith, product_fits c.loop-d.value c.args.base (omega arith) (omega arith)) }
 
 pub loop-d-preserved : goal.loop-d-preserved
 loop-d-preserved c =
@@ -17,7 +17,7 @@ loop-d-preserved c =
     let more : value_of c.args.base (take (c.loop-d.d-index + 1) c.args.digits.now) ≡ x * c.args.base + digit_value (get_or c.args.digits.now c.loop-d.d-index 0)
     = fold_more (λ v d. v * c.args.base + digit_value d) 0 c.args.digits.now c.loop-d.d-index 0 c.loop-d-test.true in
     let step = cut_step x c.args.base (digit_value (get_or c.args.digits.now c.loop-d.d-index 0)) c.requires.0 in
-    c.min-value.ensures ∙ ap (λ (n : ℕ). min (n * c.args.base + c.digit-value.result) 2147483648) c.loop-d.invariant ∙ ap (λ (n : ℕ). min (min 2147483648 x * c.args.base + n) 2147483648) c.digit-value.ensures.value ∙ step ∙ ap (min 2147483648) (sym more)
+    c.min-value.ensures ∙ ap (λ (n : ℕ). min (n * c.args.base + c.digit_value.result) 2147483648) c.loop-d.invariant ∙ ap (λ (n : ℕ). min (min 2147483648 x * c.args.base + n) 2147483648) c.digit_value.ensures.value ∙ step ∙ ap (min 2147483648) (sym more)
 
 pub returns : goal.returns
 returns c =

@@ -6,6 +6,6 @@ use Rattle.lexer.proofs.scan.word.Goals as goal
 
 pub returns : goal.returns
 returns c =
-    let k : c.word-kind.result ≡ word_kind (take c.length-length.result c.args.rest.now) = c.word-kind.ensures ∙ ap (λ (n : ℕ). word_kind (take n c.args.rest.now)) (sub-zero _) in
+    let k : c.word_kind.result ≡ word_kind (take c.length-length.result c.args.rest.now) = c.word_kind.ensures ∙ ap (λ (n : ℕ). word_kind (take n c.args.rest.now)) (sub-zero _) in
     ap (λ k. token k c.length-length.result 0) k
     ∙ ap (λ (n : ℕ). token (word_kind (take n c.args.rest.now)) n 0) c.length-length.ensures.same

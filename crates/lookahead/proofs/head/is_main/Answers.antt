@@ -5,10 +5,10 @@ use Rattle.lookahead.proofs.Bytes.{main_is}
 use Rattle.lookahead.proofs.head.is_main.Goals as goal
 use Rattle.std.proofs.lemmas.Bool.Decides.{Decides-eqb}
 
-pub returns-then-is-at : goal.returns-then-is-at
-returns-then-is-at c =
+pub returns-then-is_at : goal.returns-then-is_at
+returns-then-is_at c =
     let d = slice_eq-Decides Decides-eqb c.part.result.now main_name c.eq.result c.eq.ensures in
     record {
-      same = main_is c.args.source.now c.args.tokens.now c.args.at _ (c.if-is-at.ensures.inside refl) (sym c.if-is-at.ensures.same) c.eq.result (rw c.part.ensures at d);
-      inside = λ _. c.if-is-at.ensures.inside refl;
+      same = main_is c.args.source.now c.args.tokens.now c.args.at _ (c.if-is_at.ensures.inside refl) (sym c.if-is_at.ensures.same) c.eq.result (rw c.part.ensures at d);
+      inside = λ _. c.if-is_at.ensures.inside refl;
     }

@@ -6,5 +6,5 @@ use Rattle.lookahead.proofs.kinds.is_at.Goals as goal
 
 pub returns : goal.returns
 returns c =
-    let e = c.is-kind.ensures ∙ ap (λ (k : Option Kind). is_kind k c.args.kind) c.kind-at.ensures.same in
+    let e = c.is_kind.ensures ∙ ap (λ (k : Option Kind). is_kind k c.args.kind) c.kind_at.ensures.same in
     record { same = e; inside = λ h. kind_inside c.args.tokens.now c.args.at c.args.kind (sym e ∙ h) }

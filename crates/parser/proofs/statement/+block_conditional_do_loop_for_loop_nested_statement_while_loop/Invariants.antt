@@ -16,14 +16,14 @@ decreases-nested l = 8 * (length l.tokens.now - l.at) + 4
 abbrev pub decreases-conditional : goal.decreases-conditional
 decreases-conditional l = 8 * (length l.tokens.now - l.at) + 3
 
-abbrev pub decreases-while-loop : goal.decreases-while-loop
-decreases-while-loop l = 8 * (length l.tokens.now - l.at) + 3
+abbrev pub decreases-while_loop : goal.decreases-while_loop
+decreases-while_loop l = 8 * (length l.tokens.now - l.at) + 3
 
-abbrev pub decreases-do-loop : goal.decreases-do-loop
-decreases-do-loop l = 8 * (length l.tokens.now - l.at) + 3
+abbrev pub decreases-do_loop : goal.decreases-do_loop
+decreases-do_loop l = 8 * (length l.tokens.now - l.at) + 3
 
-abbrev pub decreases-for-loop : goal.decreases-for-loop
-decreases-for-loop l = 8 * (length l.tokens.now - l.at) + 3
+abbrev pub decreases-for_loop : goal.decreases-for_loop
+decreases-for_loop l = 8 * (length l.tokens.now - l.at) + 3
 
 abbrev pub invariant-block-statements : goal.invariant-block-statements
 invariant-block-statements l =

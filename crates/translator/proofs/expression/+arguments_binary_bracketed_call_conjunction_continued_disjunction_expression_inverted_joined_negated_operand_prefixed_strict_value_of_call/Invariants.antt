@@ -29,8 +29,8 @@ decreases-inverted l = 32 * (length l.tokens.now - l.at) + 2
 abbrev pub decreases-bracketed : goal.decreases-bracketed
 decreases-bracketed l = 32 * (length l.tokens.now - l.at) + 2
 
-abbrev pub decreases-value-of-call : goal.decreases-value-of-call
-decreases-value-of-call l = 32 * (length l.tokens.now - l.at) + 3
+abbrev pub decreases-value_of_call : goal.decreases-value_of_call
+decreases-value_of_call l = 32 * (length l.tokens.now - l.at) + 3
 
 abbrev pub decreases-call : goal.decreases-call
 decreases-call l = 32 * (length l.tokens.now - l.at) + 2

@@ -8,6 +8,6 @@ returns c =
     record {
       within = refl;
       same = λ s Γ k h.
-          let f : SFits w32 c.literal-of-literal.result.value = search rules in
-          constant_done s _ _ Γ _ _ k h c.token-at-token.result c.literal-of-literal.result _ (c.token-at-token.ensures c.requires) c.literal-of-literal.ensures (simp to_z-of_z at c.emit-constant.ensures) refl;
+          let f : SFits w32 c.literal_of-literal.result.value = search rules in
+          constant_done s _ _ Γ _ _ k h c.token_at-token.result c.literal_of-literal.result _ (c.token_at-token.ensures c.requires) c.literal_of-literal.ensures (simp to_z-of_z at c.emit_constant.ensures) refl;
     }

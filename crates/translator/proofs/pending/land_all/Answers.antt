@@ -18,7 +18,7 @@ pub landing-preserved : goal.landing-preserved
 landing-preserved c =
     let K = seen c.landing.jumps in
     let l : c.args.mark < length K.held = omega (arith, c.len.ensures, c.landing-test.true) in
-    absurd (never_empty K c.args.mark l (sym c.in-default.ensures.answer))
+    absurd (never_empty K c.args.mark l (sym c.in_default.ensures.answer))
 
 pub returns : goal.returns
 returns c =

@@ -3,7 +3,7 @@ use Rattle.std.proofs.Common.{◌≡◌, ◌∙◌, arith}
 use Rattle.stacks.specs.Held.{seen}
 use Rattle.translator.proofs.Records.{cells-none, cells-past, cells_more, cells_same}
 use Rattle.translator.proofs.scope.cells_in.Goals as goal
-use Rattle.translator.proofs.scope.cells_in.Goals.{in-Some+in-Variable, in-Some+in-default-entry, in-default}
+use Rattle.translator.proofs.scope.cells_in.Goals.{in-Some+in-Variable, in-Some+in_default-entry, in_default}
 
 pub records-init : goal.records-init
 records-init c = (omega arith, cells-none)
@@ -14,9 +14,9 @@ records-preserved c =
     let i = c.records.i in
     elim c.match-get.branch [
       | in-Some+in-Variable w ↦ (omega (arith, w.count-is), λ s. w.count-is ∙ cells_more s ns i _ (c.records.invariant.1 s) _ w.in-Some.ensures w.in-Variable.is)
-      | in-Some+in-default-entry w ↦
-          (omega (arith, w.count-is), λ s. w.count-is ∙ cells_same s ns i _ (c.records.invariant.1 s) _ w.in-Some.ensures w.in-default-entry.not-Variable w.in-default-entry.not-Stop)
-      | in-default w ↦ (omega (arith, w.count-is), λ s. w.count-is ∙ cells-past s ns i _ (c.records.invariant.1 s) w.in-default.ensures)
+      | in-Some+in_default-entry w ↦
+          (omega (arith, w.count-is), λ s. w.count-is ∙ cells_same s ns i _ (c.records.invariant.1 s) _ w.in-Some.ensures w.in_default-entry.not-Variable w.in_default-entry.not-Stop)
+      | in_default w ↦ (omega (arith, w.count-is), λ s. w.count-is ∙ cells-past s ns i _ (c.records.invariant.1 s) w.in_default.ensures)
     ]
 
 pub returns : goal.returns

@@ -16,10 +16,10 @@ returns-then-defines c =
 
 pub newest-preserved-else-defines : goal.newest-preserved-else-defines
 newest-preserved-else-defines c =
-    open_more _ (seen c.args.names.now).held _ _ _ (omega arith) _ c.in-Some.ensures c.newest.invariant c.in-default-entry.not-Level c.if-defines.ensures
+    open_more _ (seen c.args.names.now).held _ _ _ (omega arith) _ c.in-Some.ensures c.newest.invariant c.in_default-entry.not-Level c.if-defines.ensures
 
 pub newest-preserved : goal.newest-preserved
-newest-preserved c = open_past _ (seen c.args.names.now).held _ _ _ (omega arith) c.in-default.ensures c.newest.invariant
+newest-preserved c = open_past _ (seen c.args.names.now).held _ _ _ (omega arith) c.in_default.ensures c.newest.invariant
 
 pub returns : goal.returns
 returns c =

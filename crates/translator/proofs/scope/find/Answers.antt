@@ -16,7 +16,7 @@ pub newest-preserved-else-defines : goal.newest-preserved-else-defines
 newest-preserved-else-defines c = unnamed_more _ _ _ _ _ (omega arith) _ c.in-Some.ensures c.if-defines.ensures c.newest.invariant
 
 pub newest-preserved : goal.newest-preserved
-newest-preserved c = unnamed_past _ _ _ _ _ (omega arith) c.in-default.ensures c.newest.invariant
+newest-preserved c = unnamed_past _ _ _ _ _ (omega arith) c.in_default.ensures c.newest.invariant
 
 pub returns : goal.returns
 returns c =

@@ -5,20 +5,20 @@ use Rattle.translator.specs.Statements.{work}
 use Rattle.translator.proofs.Mains.{main_fault, main_done}
 use Rattle.translator.proofs.script.main_rest.Goals as goal
 
-pub returns-in-err-close : goal.returns-in-err-close
-returns-in-err-close c =
-    let p = err_from_is_err_and c.from-residual.result c.from-residual.ensures.1 in
+pub returns-in_err-close : goal.returns-in_err-close
+returns-in_err-close c =
+    let p = err_from_is_err_and c.from_residual.result c.from_residual.ensures.1 in
     rw (p.1, p.2) (λ ss h.
     let s = c.args.source.now in
     main_fault s c.args.tokens.now c.args.at (seen c.args.names.now) (seen c.enter.new.names) (seen c.enter-2.new.names) (seen c.enter-3.new.names)
     (seen c.args.jumps.now) (seen c.args.code.now) ss h (c.enter.ensures s) (c.enter-2.ensures s) (c.enter-3.ensures s) c.past.result c.past-body.result c.past.ensures.next
-    c.past-body.ensures.next (work (seen c.statements.new.names) (seen c.statements.new.jumps) (seen c.statements.new.code)) _ c.in-err-close.ensures.same)
+    c.past-body.ensures.next (work (seen c.statements.new.names) (seen c.statements.new.jumps) (seen c.statements.new.code)) _ c.in_err-close.ensures.same)
 
 pub returns : goal.returns
 returns c ss h =
     let s = c.args.source.now in
     main_done s c.args.tokens.now c.args.at (seen c.args.names.now) (seen c.enter.new.names) (seen c.enter-2.new.names) (seen c.enter-3.new.names)
     (seen c.args.jumps.now) (seen c.args.code.now) ss h (c.enter.ensures s) (c.enter-2.ensures s) (c.enter-3.ensures s) c.past.result c.past-body.result c.past.ensures.next
-    c.past-body.ensures.next (work (seen c.statements.new.names) (seen c.statements.new.jumps) (seen c.statements.new.code)) c.in-ok-close.close
-    (seen c.land-all.new.jumps) (seen c.land-all.new.code) (seen c.emit.new.code) (seen c.emit-2.new.code) c.token-at-place.result c.in-ok-close.ensures.same
-    c.land-all.ensures c.token-at-place.ensures c.emit.ensures c.emit-2.ensures
+    c.past-body.ensures.next (work (seen c.statements.new.names) (seen c.statements.new.jumps) (seen c.statements.new.code)) c.in_ok-close.close
+    (seen c.land_all.new.jumps) (seen c.land_all.new.code) (seen c.emit.new.code) (seen c.emit-2.new.code) c.token_at-place.result c.in_ok-close.ensures.same
+    c.land_all.ensures c.token_at-place.ensures c.emit.ensures c.emit-2.ensures

@@ -3,15 +3,15 @@ use Rattle.stacks.specs.Held.{seen}
 use Rattle.translator.proofs.Mains.{items_faulty, script_done}
 use Rattle.translator.proofs.script.script.Goals as goal
 
-pub returns-in-err-rest : goal.returns-in-err-rest
-returns-in-err-rest c =
-    let p = err_from_is_err_and c.from-residual.result c.from-residual.ensures.1 in
+pub returns-in_err-rest : goal.returns-in_err-rest
+returns-in_err-rest c =
+    let p = err_from_is_err_and c.from_residual.result c.from_residual.ensures.1 in
     rw (p.1, p.2) (λ t h.
     items_faulty c.args.source.now c.args.tokens.now (seen c.args.names.now) (seen c.enter.new.names) (seen c.args.jumps.now) (seen c.args.code.now) t h
-    (c.enter.ensures c.args.source.now) (seen c.items.new.names) (seen c.items.new.code) c.in-err-rest.field-0.0 c.in-err-rest.ensures)
+    (c.enter.ensures c.args.source.now) (seen c.items.new.names) (seen c.items.new.code) c.in_err-rest.field-0.0 c.in_err-rest.ensures)
 
 pub returns : goal.returns
 returns c t h =
     script_done c.args.source.now c.args.tokens.now (seen c.args.names.now) (seen c.enter.new.names) (seen c.args.jumps.now) (seen c.args.code.now) t h
-    (c.enter.ensures c.args.source.now) c.in-ok-rest.rest (seen c.items.new.names) (seen c.items.new.code) c.in-ok-rest.ensures
-    (seen c.main-rest.new.code) c.main-rest.result c.main-rest.ensures
+    (c.enter.ensures c.args.source.now) c.in_ok-rest.rest (seen c.items.new.names) (seen c.items.new.code) c.in_ok-rest.ensures
+    (seen c.main_rest.new.code) c.main_rest.result c.main_rest.ensures

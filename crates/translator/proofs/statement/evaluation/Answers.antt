@@ -5,13 +5,13 @@ use Rattle.translator.proofs.Leaves.{evaluated_fails, evaluated_drops, evaluated
 use Rattle.translator.proofs.statement.evaluation.Goals as goal
 use Rattle.translator.proofs.statement.evaluation.Goals.{then-done, else_done}
 
-pub returns-in-err-done : goal.returns-in-err-done
-returns-in-err-done c =
-    let p = err_from_is_err_and c.from-residual.result c.from-residual.ensures.1 in
+pub returns-in_err-done : goal.returns-in_err-done
+returns-in_err-done c =
+    let p = err_from_is_err_and c.from_residual.result c.from_residual.ensures.1 in
     rw (p.1, p.2) (record {
       within = tt;
       same =
-          evaluated_fails _ _ c.args.at (seen c.args.names.now) (seen c.args.code.now) (seen c.whole.new.code) _ c.in-err-done.ensures.same;
+          evaluated_fails _ _ c.args.at (seen c.args.names.now) (seen c.args.code.now) (seen c.whole.new.code) _ c.in_err-done.ensures.same;
     })
 
 pub returns : goal.returns
@@ -21,14 +21,14 @@ returns c =
     let N = seen c.args.names.now in
     let C = seen c.args.code.now in
     let D = seen c.whole.new.code in
-    let v = c.in-ok-done.done in
+    let v = c.in_ok-done.done in
     let q = c.past.result in
     record {
       within = search rules;
       same =
           elim c.if-done.branch [
-            | then-done w ↦ rw w.code-is (evaluated_drops s ts c.args.at N C D v q c.in-ok-done.ensures.same c.past.ensures.next
-                w.token-at.result (seen w.emit.new.code) w.token-at.ensures w.if-done.true w.emit.ensures)
-            | else_done w ↦ rw w.code-is (evaluated_leaves s ts c.args.at N C D v q c.in-ok-done.ensures.same c.past.ensures.next w.if-done.false)
+            | then-done w ↦ rw w.code-is (evaluated_drops s ts c.args.at N C D v q c.in_ok-done.ensures.same c.past.ensures.next
+                w.token_at.result (seen w.emit.new.code) w.token_at.ensures w.if-done.true w.emit.ensures)
+            | else_done w ↦ rw w.code-is (evaluated_leaves s ts c.args.at N C D v q c.in_ok-done.ensures.same c.past.ensures.next w.if-done.false)
           ];
     }

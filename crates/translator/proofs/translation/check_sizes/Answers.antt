@@ -4,18 +4,18 @@ use Rattle.std.proofs.lemmas.Bool.Decides.{nat_tests}
 use Rattle.translator.specs.Translation.{long, few_tokens, few_records}
 use Rattle.translator.proofs.translation.check_sizes.Goals as goal
 
-pub returns-then-source-gt-SOURCE-LIMIT : goal.returns-then-source-gt-SOURCE-LIMIT
-returns-then-source-gt-SOURCE-LIMIT c =
-    let a : ltb 16384 (length c.args.source.now) ≡ true = grind (arith, nat_tests) in (long c.if-source-gt-SOURCE-LIMIT.true, rw a)
+pub returns-then-source-gt-SOURCE_LIMIT : goal.returns-then-source-gt-SOURCE_LIMIT
+returns-then-source-gt-SOURCE_LIMIT c =
+    let a : ltb 16384 (length c.args.source.now) ≡ true = grind (arith, nat_tests) in (long c.if-source-gt-SOURCE_LIMIT.true, rw a)
 
-pub returns-then-tokens-lt-TOKEN-LIMIT : goal.returns-then-tokens-lt-TOKEN-LIMIT
-returns-then-tokens-lt-TOKEN-LIMIT c =
+pub returns-then-tokens-lt-TOKEN_LIMIT : goal.returns-then-tokens-lt-TOKEN_LIMIT
+returns-then-tokens-lt-TOKEN_LIMIT c =
     let a : ltb 16384 (length c.args.source.now) ≡ false = grind (arith, nat_tests) in
-    let b : ltb (length c.args.tokens.now) 1024 ≡ true = grind (arith, nat_tests) in (few_tokens c.if-source-gt-SOURCE-LIMIT.false c.if-tokens-lt-TOKEN-LIMIT.true, rw (a, b))
+    let b : ltb (length c.args.tokens.now) 1024 ≡ true = grind (arith, nat_tests) in (few_tokens c.if-source-gt-SOURCE_LIMIT.false c.if-tokens-lt-TOKEN_LIMIT.true, rw (a, b))
 
-pub returns-then-code-lt-CODE-LIMIT : goal.returns-then-code-lt-CODE-LIMIT
-returns-then-code-lt-CODE-LIMIT c =
+pub returns-then-code-lt-CODE_LIMIT : goal.returns-then-code-lt-CODE_LIMIT
+returns-then-code-lt-CODE_LIMIT c =
     let a : ltb 16384 (length c.args.source.now) ≡ false = grind (arith, nat_tests) in
     let b : ltb (length c.args.tokens.now) 1024 ≡ false = grind (arith, nat_tests) in
     let d : ltb (length c.args.code.now) 4096 ≡ true = grind (arith, nat_tests) in
-    (few_records c.if-source-gt-SOURCE-LIMIT.false c.if-tokens-lt-TOKEN-LIMIT.false c.if-code-lt-CODE-LIMIT.true, rw (a, b, d))
+    (few_records c.if-source-gt-SOURCE_LIMIT.false c.if-tokens-lt-TOKEN_LIMIT.false c.if-code-lt-CODE_LIMIT.true, rw (a, b, d))

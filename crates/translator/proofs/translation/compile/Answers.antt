@@ -5,21 +5,21 @@ use Rattle.stacks.specs.Held.{seen}
 use Rattle.translator.proofs.Telling.{script_at, compiled}
 use Rattle.translator.proofs.translation.compile.Goals as goal
 
-pub returns-in-err-script : goal.returns-in-err-script
-returns-in-err-script c =
-    let p = err_from_is_err_and c.from-residual-in-err-script.result c.from-residual-in-err-script.ensures.1 in
+pub returns-in_err-script : goal.returns-in_err-script
+returns-in_err-script c =
+    let p = err_from_is_err_and c.from_residual-in_err-script.result c.from_residual-in_err-script.ensures.1 in
     rw (p.1, p.2) (λ a l room.
-    let v = c.in-ok-parse.ensures.verdict in
+    let v = c.in_ok-parse.ensures.verdict in
     let h =
     script_at c.args.source.now c.args.tokens.now (seen c.new-names.result) (seen c.new-jumps.result) (seen c.new-made.result) v.0 1028 1024 v.1 a l
     c.new-names.ensures.empty c.new-jumps.ensures.empty c.new-made.ensures.empty (omega arith) (omega arith) in
-    (refl, inr (v.0, v.1, c.in-err-script.ensures v.0 h)))
+    (refl, inr (v.0, v.1, c.in_err-script.ensures v.0 h)))
 
 pub returns : goal.returns
 returns c a l room =
-    let v = c.in-ok-parse.ensures.verdict in
+    let v = c.in_ok-parse.ensures.verdict in
     let h =
     script_at c.args.source.now c.args.tokens.now (seen c.new-names.result) (seen c.new-jumps.result) (seen c.new-made.result) v.0 1028 1024 v.1 a l
     c.new-names.ensures.empty c.new-jumps.ensures.empty c.new-made.ensures.empty (omega arith) (omega arith) in
-    compiled c.args.source.now c.args.tokens.now c.args.code.now c.copy-code.new.to c.copy-code.result v.0 (seen c.script.new.code) v.1 l room
-    (c.in-ok-script.ensures v.0 h) c.copy-code.ensures.count c.copy-code.ensures.list
+    compiled c.args.source.now c.args.tokens.now c.args.code.now c.copy_code.new.to c.copy_code.result v.0 (seen c.script.new.code) v.1 l room
+    (c.in_ok-script.ensures v.0 h) c.copy_code.ensures.count c.copy_code.ensures.list

@@ -2,7 +2,7 @@ use Rattle.std.proofs.Common.{◌≡◌, ◌<◌, length, ◌∙◌, arith}
 use Rattle.stacks.specs.Held.{seen}
 use Rattle.translator.proofs.Copies.{copied_more, never_past, copied_all}
 use Rattle.translator.proofs.translation.copy_code.Goals as goal
-use Rattle.translator.proofs.translation.copy_code.Goals.{in-Some, in-default}
+use Rattle.translator.proofs.translation.copy_code.Goals.{in-Some, in_default}
 
 pub records-preserved : goal.records-preserved
 records-preserved c =
@@ -13,7 +13,7 @@ records-preserved c =
     let k : i < length h = omega (arith, c.min-i-end.ensures, c.records-test.true, c.len-count.ensures) in
     elim c.match-get.branch [
       | in-Some w ↦ w.to-is ∙ copied_more h b c.records.to i _ w.in-Some.ensures l c.records.invariant
-      | in-default w ↦ absurd (never_past h i w.in-default.ensures k)
+      | in_default w ↦ absurd (never_past h i w.in_default.ensures k)
     ]
 
 pub returns : goal.returns

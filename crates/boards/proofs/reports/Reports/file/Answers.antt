@@ -5,8 +5,8 @@ use Rattle.std.proofs.lemmas.Bool.Decides.{nat_tests}
 use Rattle.boards.proofs.Sounds.{report_keeps_sound}
 use Rattle.boards.proofs.reports.Reports.file.Goals as goal
 
-pub returns-then-is-full : goal.returns-then-is-full
-returns-then-is-full c = record {
+pub returns-then-is_full : goal.returns-then-is_full
+returns-then-is_full c = record {
   answer = λ columns rows zones. grind (arith, nat_tests, length-take);
   after = λ columns rows zones. grind (arith, nat_tests, length-take);
   law = report_keeps_sound c.args.v;

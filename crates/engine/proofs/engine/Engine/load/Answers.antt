@@ -8,11 +8,11 @@ use Rattle.engine.proofs.Judging.{one_judgement}
 use Rattle.engine.proofs.Lawful.{lawful}
 use Rattle.engine.proofs.engine.Engine.load.Goals as goal
 
-pub returns-in-err-counts : goal.returns-in-err-counts
-returns-in-err-counts c =
-    let p = err_from_is_err_and c.from-residual.result c.from-residual.ensures.1 in
-    let t = c.in-err-counts.ensures in
-    let why = c.in-err-counts.field-0.0 in
+pub returns-in_err-counts : goal.returns-in_err-counts
+returns-in_err-counts c =
+    let p = err_from_is_err_and c.from_residual.result c.from_residual.ensures.1 in
+    let t = c.in_err-counts.ensures in
+    let why = c.in_err-counts.field-0.0 in
     let d : Loads c.args.source.now (length c.args.tokens.now) (holds c.args.self.now) c.args.code.now
     (refused (number_of why.reason) why.place) (holds c.args.self.now) c.translate.new.code =
     record { translation = t.answer; engine = refl } in
@@ -26,9 +26,9 @@ returns-in-err-counts c =
 
 pub returns : goal.returns
 returns c =
-    let t = c.in-ok-counts.ensures in
+    let t = c.in_ok-counts.ensures in
     let d : Loads c.args.source.now (length c.args.tokens.now) (holds c.args.self.now) c.args.code.now
-    (accepted c.in-ok-counts.counts) (holds c.start.new.self) c.translate.new.code =
+    (accepted c.in_ok-counts.counts) (holds c.start.new.self) c.translate.new.code =
     record { translation = t.answer; engine = c.start.ensures } in
     record {
       does = d;

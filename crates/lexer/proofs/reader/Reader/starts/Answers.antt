@@ -7,6 +7,6 @@ pub returns : goal.returns
 returns c =
     let rest = take_rest c.args.self.now.source.now c.args.self.now.at in
     record {
-      same = c.begins-with.ensures.same ∙ ap (begins (c.args.first ∷ c.args.second ∷ [])) rest;
-      within = λ e. omega (arith, c.begins-with.ensures.within e, ap length rest, length-drop c.args.self.now.at c.args.self.now.source.now);
+      same = c.begins_with.ensures.same ∙ ap (begins (c.args.first ∷ c.args.second ∷ [])) rest;
+      within = λ e. omega (arith, c.begins_with.ensures.within e, ap length rest, length-drop c.args.self.now.at c.args.self.now.source.now);
     }

@@ -18,18 +18,18 @@ pub returns-in-LineComment-default : goal.returns-in-LineComment-default
 returns-in-LineComment-default c =
     let s = c.args.self.now.source.now in
     let at = c.args.self.now.at in
-    let apart : c.class-of.result ≡ Blank → ⊥ = λ e. search rules in
+    let apart : c.class_of.result ≡ Blank → ⊥ = λ e. search rules in
     record {
       source = c.pass-in-LineComment-default.ensures.source;
-      step = went s at _ _ _ _ _ 0 c.requires.within c.in-LineComment-default.is-0 (line_goes_on at (drop at s) (no_feed _ (λ e. apart (c.class-of.ensures ∙ ap class_of c.byte.ensures ∙ e)))) (omega arith) c.pass-in-LineComment-default.ensures.at c.pass-in-LineComment-default.ensures.state;
+      step = went s at _ _ _ _ _ 0 c.requires.within c.in-LineComment-default.is-0 (line_goes_on at (drop at s) (no_feed _ (λ e. apart (c.class_of.ensures ∙ ap class_of c.byte.ensures ∙ e)))) (omega arith) c.pass-in-LineComment-default.ensures.at c.pass-in-LineComment-default.ensures.state;
     }
 
 pub returns-in-LongComment-default : goal.returns-in-LongComment-default
 returns-in-LongComment-default c =
     let s = c.args.self.now.source.now in
     let at = c.args.self.now.at in
-    let apart : c.class-of.result ≡ Mark → ⊥ = λ e. search rules in
+    let apart : c.class_of.result ≡ Mark → ⊥ = λ e. search rules in
     record {
       source = c.pass-in-LongComment-default.ensures.source;
-      step = went s at _ _ _ _ _ 0 c.requires.within c.in-LongComment-default.is-0 (long_goes_on at c.in-LongComment-default.opened (drop at s) (no_close (drop at s) (λ e. apart (c.class-of.ensures ∙ ap class_of c.byte.ensures ∙ e)))) (omega arith) c.pass-in-LongComment-default.ensures.at c.pass-in-LongComment-default.ensures.state;
+      step = went s at _ _ _ _ _ 0 c.requires.within c.in-LongComment-default.is-0 (long_goes_on at c.in-LongComment-default.opened (drop at s) (no_close (drop at s) (λ e. apart (c.class_of.ensures ∙ ap class_of c.byte.ensures ∙ e)))) (omega arith) c.pass-in-LongComment-default.ensures.at c.pass-in-LongComment-default.ensures.state;
     }

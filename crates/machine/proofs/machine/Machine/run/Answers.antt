@@ -33,7 +33,7 @@ returns g c =
     let r = c.run-halted.ensures in
     let s = c.settle.ensures in
     let k = keeps c.args.self.now in
-    let e = call_is k _ _ _ _ _ c.run-halted.result r.how r.state r.counted (ap over_of c.in-default.is) in
+    let e = call_is k _ _ _ _ _ c.run-halted.result r.how r.state r.counted (ap over_of c.in_default.is) in
     let f = e ∙ ap (λ x. call x k (g.B.Board.meaning c.args.board.now) c.args.ticks) c.first-records.ensures in
     record {
       answer = s.answer ∙ ap says f;

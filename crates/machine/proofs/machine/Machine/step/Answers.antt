@@ -16,8 +16,8 @@ returns-in-Some g c =
     ap (λ s. off s k b) e
     ∙ ap (λ o. turn_from (over_of o) (take c.args.n c.args.code.now) k b c.args.ticks) (sym c.in-Some.is)
 
-pub move-on-requires : goal.move-on-requires
-move-on-requires g c =
+pub move_on-requires : goal.move_on-requires
+move_on-requires g c =
     step_within c.first-records.result.now (begun (keeps c.args.self.now) (g.B.Board.meaning c.args.board.now) c.args.ticks)
     (state_of c.step-moved.new.self c.step-moved.result.at (g.B.Board.meaning c.step-moved.new.board)) c.step-moved.result.flow c.step-moved.ensures
 
@@ -37,8 +37,8 @@ returns-in-Goes g c =
     let b = g.B.Board.meaning c.args.board.now in
     let d = g.B.Board.meaning c.step-moved.new.board in
     let v = state_of c.step-moved.new.self c.step-moved.result.at d in
-    on_is k c.first-records.result.now b c.args.ticks c.args.self.now.over refl c.in-default.is v c.move-on.result (keeps c.move-on.new.self)
-    (sym c.step-moved.ensures ∙ ap (λ (f : Flow). next_of f v) c.in-Goes.is) c.move-on.ensures.answer (c.move-on.ensures.after d)
+    on_is k c.first-records.result.now b c.args.ticks c.args.self.now.over refl c.in_default.is v c.move_on.result (keeps c.move_on.new.self)
+    (sym c.step-moved.ensures ∙ ap (λ (f : Flow). next_of f v) c.in-Goes.is) c.move_on.ensures.answer (c.move_on.ensures.after d)
     ∙ ap (λ x. turn x k b c.args.ticks) c.first-records.ensures
 
 pub returns-in-Ends : goal.returns-in-Ends
@@ -47,8 +47,8 @@ returns-in-Ends g c =
     let b = g.B.Board.meaning c.args.board.now in
     let v = state_of c.step-moved.new.self c.step-moved.result.at (g.B.Board.meaning c.step-moved.new.board) in
     let s = c.settle.ensures in
-    let n = c.saturating-add-counted in
-    off_is k c.first-records.result.now b c.args.ticks (ap over_of c.in-default.is) c.step-moved.result.flow v n.result _ _
+    let n = c.saturating_add-counted in
+    off_is k c.first-records.result.now b c.args.ticks (ap over_of c.in_default.is) c.step-moved.result.flow v n.result _ _
     (subst Stopped (sym c.in-Ends.is) tt) (sym c.step-moved.ensures) (n.ensures ∙ ap (λ (f : Flow). up_to (k.counted + tally f)) (sym c.in-Ends.is)) s.answer s.after
     ∙ ap (λ x. turn x k b c.args.ticks) c.first-records.ensures
 
@@ -61,6 +61,6 @@ returns-in-Waits g c =
     let q = quiet c.step-moved.result.flow c.in-Waits.is in
     let fits : k.counted ≤ 18446744073709551615 = search rules in
     let same : k.counted ≡ up_to (k.counted + 0) = omega arith in
-    off_is k c.first-records.result.now b c.args.ticks (ap over_of c.in-default.is) c.step-moved.result.flow v k.counted _ _
+    off_is k c.first-records.result.now b c.args.ticks (ap over_of c.in_default.is) c.step-moved.result.flow v k.counted _ _
     q.0 (sym c.step-moved.ensures) (same ∙ ap (λ n. up_to (k.counted + n)) (sym q.1)) s.answer s.after
     ∙ ap (λ x. turn x k b c.args.ticks) c.first-records.ensures

@@ -116,7 +116,7 @@ returns-in-15 g c =
     let f : SFits w32 i.operand = search rules in
     let m = c.args.self.now in
     let b = g.B.Board.meaning c.args.board.now in
-    c.jump-if-zero.ensures b
+    c.jump_if_zero.ensures b
     ∙ ap (λ z. branched c.args.code.now z (tops m.values c.args.at.height) (state_of m c.args.at b)) (to_z-of_z w32 i.operand f)
     ∙ sym (by_operation c.args.code.now c.args.at none c.if-at-code.false c.args.self.now _ _ (decoded i 15 e))
 
@@ -157,10 +157,10 @@ returns-in-21 g c =
     let e : i.code ≡ pos 21 = search rules in
     by_plain c.args.code.now c.args.at none c.if-at-code.false _ _ _ _ _ (decoded i 21 e) c.give.ensures
 
-pub returns-in-default : goal.returns-in-default
-returns-in-default g c =
+pub returns-in_default : goal.returns-in_default
+returns-in_default g c =
     let i = get_or c.args.code.now c.args.at.position none in
     let f : SFits w32 i.code = search rules in
     let l : 22 ≤ of_z w32 i.code = omega arith in
     let e = by_operation c.args.code.now c.args.at none c.if-at-code.false c.args.self.now _ _ (not_decoded i f l) in
-    broke c.args.code.now c.args.at c.args.self.now _ _ (sym e) c.breaks-in-default.ensures.flow c.breaks-in-default.ensures.at
+    broke c.args.code.now c.args.at c.args.self.now _ _ (sym e) c.breaks-in_default.ensures.flow c.breaks-in_default.ensures.at

@@ -10,5 +10,5 @@ returns-in-Some c =
     lands_there (seen c.args.code.now) (seen c.replace.new.self) c.args.self.at c.args.target c.in-Some.jump c.int.result
     (sym c.in-Some.ensures) c.int.ensures (simp to_z-of_z at c.replace.ensures.after)
 
-pub returns-in-default : goal.returns-in-default
-returns-in-default c = lands_nowhere (seen c.args.code.now) c.args.self.at c.args.target (sym c.in-default.ensures)
+pub returns-in_default : goal.returns-in_default
+returns-in_default c = lands_nowhere (seen c.args.code.now) c.args.self.at c.args.target (sym c.in_default.ensures)
