@@ -27,7 +27,7 @@ pub struct RefusedCrop<B> {
 impl<B: Board> Crop<B> {
     // The part of `lower` that the window shows.
     pub fn new(lower: B, window: Window) -> Result<Crop<B>, RefusedCrop<B>>
-        ensures { Cropping meaning lower window result }
+        ensures { Cropping B.meaning lower window result }
     {
         if window.lies_in(lower.columns(), lower.rows()) {
             Ok(Crop { lower, window })
@@ -52,8 +52,8 @@ impl<B> Crop<B> {
 
 // The zone of that number, or 0 where the board has none.
 fn zone_or_0<B: Board>(board: &mut B, number: Option<i32>) -> i32
-    ensures value { (p : ℕ) → number ≡ numbered p → result ≡ zone_or0 (meaning board.old) p }
-    ensures same { meaning board.new ≡ meaning board.old }
+    ensures value { (p : ℕ) → number ≡ numbered p → result ≡ zone_or0 (B.meaning board.old) p }
+    ensures same { B.meaning board.new ≡ B.meaning board.old }
 {
     let Some(i) = number else {
         return 0;
@@ -65,7 +65,7 @@ fn zone_or_0<B: Board>(board: &mut B, number: Option<i32>) -> i32
 }
 
 impl<B: Board> Board for Crop<B> {
-    ghost meaning = { crop_meaning B.Board.meaning };
+    ghost meaning = { crop_meaning B.meaning };
 
     fn columns(&self) -> u32 {
         self.window.columns
@@ -76,9 +76,9 @@ impl<B: Board> Board for Crop<B> {
     }
 
     fn zone(&mut self, i: i32) -> Result<i32, Refusal>
-        ensures answer { told result ≡ zone_answer (crop_meaning meaning self.old) i }
-        ensures same { crop_meaning meaning self.new ≡ crop_meaning meaning self.old }
-        ensures lower { Lower meaning self.old self.new (λ m. m) }
+        ensures answer { told result ≡ zone_answer (crop_meaning B.meaning self.old) i }
+        ensures same { crop_meaning B.meaning self.new ≡ crop_meaning B.meaning self.old }
+        ensures lower { Lower B.meaning self.old self.new (λ m. m) }
     {
         let k = index(i, self.window.count())?;
         let place = self.window.place(self.lower.columns(), k);
@@ -86,17 +86,17 @@ impl<B: Board> Board for Crop<B> {
     }
 
     fn report(&mut self, v: i32) -> Result<(), Refusal>
-        ensures answer { told result ≡ report_answer (crop_meaning meaning self.old) }
-        ensures after { crop_meaning meaning self.new ≡ reported (crop_meaning meaning self.old) v }
-        ensures lower { Lower meaning self.old self.new (λ m. reported m v) }
+        ensures answer { told result ≡ report_answer (crop_meaning B.meaning self.old) }
+        ensures after { crop_meaning B.meaning self.new ≡ reported (crop_meaning B.meaning self.old) v }
+        ensures lower { Lower B.meaning self.old self.new (λ m. reported m v) }
     {
         self.lower.report(v)
     }
 
     fn kept(&mut self, k: usize) -> Option<i32>
-        ensures answer { result ≡ kept_answer (crop_meaning meaning self.old) k }
-        ensures same { crop_meaning meaning self.new ≡ crop_meaning meaning self.old }
-        ensures lower { Lower meaning self.old self.new (λ m. m) }
+        ensures answer { result ≡ kept_answer (crop_meaning B.meaning self.old) k }
+        ensures same { crop_meaning B.meaning self.new ≡ crop_meaning B.meaning self.old }
+        ensures lower { Lower B.meaning self.old self.new (λ m. m) }
     {
         self.lower.kept(k)
     }
