@@ -80,8 +80,8 @@ impl Engine {
         board: &mut B,
         ticks: u32,
     ) -> Result<Answer, Refusal>
-        ensures does { Goes (holds self.old) code.now (meaning board.old) ticks (told_go result) (holds self.new) (meaning board.new) }
-        ensures law { Lawful (state (holds self.old) code.now (meaning board.old)) (go ticks) (told_go result) (state (holds self.new) code.now (meaning board.new)) }
+        ensures does { Goes (holds self.old) code.now (B.meaning board.old) ticks (told_go result) (holds self.new) (B.meaning board.new) }
+        ensures law { Lawful (state (holds self.old) code.now (B.meaning board.old)) (go ticks) (told_go result) (state (holds self.new) code.now (B.meaning board.new)) }
     {
         let count = self.may_go(code.len(), ticks)?;
         self.granted += ticks as u64;

@@ -13,7 +13,7 @@ use boards::Board;
 impl Memory {
     pub(crate) fn zone<B: Board>(&mut self, at: Cursor, board: &mut B) -> Moved
         requires { at.position + 1 < 2 ^ 64 }
-        ensures { Asks (answer zone (store_of self.old at.height) (meaning board.old)) at result self.new (meaning board.new) }
+        ensures { Asks (answer zone (store_of self.old at.height) (B.meaning board.old)) at result self.new (B.meaning board.new) }
     {
         if at.height == 0 {
             return at.breaks();
@@ -29,21 +29,21 @@ impl Memory {
 
     pub(crate) fn columns<B: Board>(&mut self, at: Cursor, board: &B) -> Moved
         requires { at.position + 1 < 2 ^ 64 }
-        ensures { Asks (answer columns (store_of self.old at.height) (meaning board.now)) at result self.new (meaning board.now) }
+        ensures { Asks (answer columns (store_of self.old at.height) (B.meaning board.now)) at result self.new (B.meaning board.now) }
     {
         self.push(at, ints::signed(board.columns()))
     }
 
     pub(crate) fn rows<B: Board>(&mut self, at: Cursor, board: &B) -> Moved
         requires { at.position + 1 < 2 ^ 64 }
-        ensures { Asks (answer rows (store_of self.old at.height) (meaning board.now)) at result self.new (meaning board.now) }
+        ensures { Asks (answer rows (store_of self.old at.height) (B.meaning board.now)) at result self.new (B.meaning board.now) }
     {
         self.push(at, ints::signed(board.rows()))
     }
 
     pub(crate) fn report<B: Board>(&mut self, at: Cursor, board: &mut B) -> Moved
         requires { at.position + 1 < 2 ^ 64 }
-        ensures { Asks (answer report (store_of self.old at.height) (meaning board.old)) at result self.new (meaning board.new) }
+        ensures { Asks (answer report (store_of self.old at.height) (B.meaning board.old)) at result self.new (B.meaning board.new) }
     {
         if at.height == 0 {
             return at.breaks();

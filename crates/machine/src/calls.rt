@@ -54,9 +54,9 @@ impl Machine {
         board: &mut B,
         ticks: u32,
     ) -> Answer
-        ensures answer { said_of result ≡ says (call (take n code.now) (keeps self.old) (meaning board.old) ticks) }
-        ensures after { keeps self.new ≡ (call (take n code.now) (keeps self.old) (meaning board.old) ticks).kept }
-        ensures board { meaning board.new ≡ (call (take n code.now) (keeps self.old) (meaning board.old) ticks).board }
+        ensures answer { said_of result ≡ says (call (take n code.now) (keeps self.old) (B.meaning board.old) ticks) }
+        ensures after { keeps self.new ≡ (call (take n code.now) (keeps self.old) (B.meaning board.old) ticks).kept }
+        ensures board { B.meaning board.new ≡ (call (take n code.now) (keeps self.old) (B.meaning board.old) ticks).board }
         ensures ends { Ends }
         ensures waits { Waits }
         ensures resumes { Resumes }
@@ -84,7 +84,7 @@ impl Machine {
         board: &mut B,
         ticks: u32,
     ) -> Step
-        ensures { turn_of result (keeps self.new) (meaning board.new) ≡ turn (take n code.now) (keeps self.old) (meaning board.old) ticks }
+        ensures { turn_of result (keeps self.new) (B.meaning board.new) ≡ turn (take n code.now) (keeps self.old) (B.meaning board.old) ticks }
     {
         if let Some(ended) = self.over {
             return Step::Stops(self.answer(ended.ending, ended.place));

@@ -18,7 +18,7 @@ impl Memory {
         at: Cursor,
         board: &mut B,
     ) -> Moved
-        ensures { next_of result.flow (state_of self.new result.at (meaning board.new)) ≡ step code.now (state_of self.old at (meaning board.old)) }
+        ensures { next_of result.flow (state_of self.new result.at (B.meaning board.new)) ≡ step code.now (state_of self.old at (B.meaning board.old)) }
     {
         if at.position >= code.len() {
             return at.breaks();

@@ -26,9 +26,9 @@ impl Memory {
         before: u64,
         board: &mut B,
     ) -> Halted
-        ensures how { how_of result.flow ≡ (run code.now (state_of self.old from (meaning board.old))).how }
-        ensures state { state_of self.new result.at (meaning board.new) ≡ (run code.now (state_of self.old from (meaning board.old))).state }
-        ensures counted { result.counted ≡ up_to (before + (run code.now (state_of self.old from (meaning board.old))).carried) }
+        ensures how { how_of result.flow ≡ (run code.now (state_of self.old from (B.meaning board.old))).how }
+        ensures state { state_of self.new result.at (B.meaning board.new) ≡ (run code.now (state_of self.old from (B.meaning board.old))).state }
+        ensures counted { result.counted ≡ up_to (before + (run code.now (state_of self.old from (B.meaning board.old))).carried) }
     {
         let mut at = from;
         let mut start = from.position;

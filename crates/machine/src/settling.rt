@@ -16,7 +16,7 @@ use crate::machine::Machine;
 use crate::running::Halted;
 
 // The place of the instruction at a position, 0 where there is none.
-pub(crate) fn place_at_lem(code: &[Instruction], position: usize) -> i32
+pub(crate) fn place_at(code: &[Instruction], position: usize) -> i32
     ensures { result ≡ place_at code.now position }
 {
     if position < code.len() {
@@ -44,7 +44,7 @@ impl Machine {
         requires { halted.at.left ≤ ticks }
         ensures { Settled (settled self.old code.now halted ticks) result self.new }
     {
-        let place = place_at_lem(code, halted.at.position);
+        let place = place_at(code, halted.at.position);
         self.position = halted.at.position;
         self.height = halted.at.height;
         self.spent = self.spent.saturating_add(ticks as u64 - halted.at.left);

@@ -11,7 +11,7 @@ use lexer::Token;
 use refusal::{Reason, Refusal};
 
 // The place of the token at `at`, or the source's end where there is none.
-fn place_at_lem(source: &[u8], tokens: &[Token], at: usize) -> u32
+fn place_at(source: &[u8], tokens: &[Token], at: usize) -> u32
     ensures { result ≡ place_by (lexemes source.now tokens.now) (length source.now) at }
 {
     if at < tokens.len() {
@@ -29,11 +29,11 @@ fn refusal_of(source: &[u8], tokens: &[Token], fault: Fault) -> Refusal
     match fault {
         Fault::Unexpected(at) => Refusal {
             reason: Reason::UnexpectedToken,
-            place: place_at_lem(source, tokens, at),
+            place: place_at(source, tokens, at),
         },
         Fault::TooDeep(start) => Refusal {
             reason: Reason::TooDeep,
-            place: place_at_lem(source, tokens, start),
+            place: place_at(source, tokens, start),
         },
     }
 }

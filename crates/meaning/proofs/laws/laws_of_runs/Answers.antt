@@ -6,7 +6,7 @@ use Rattle.meaning.proofs.laws.laws_of_runs.Goals as goal
 
 pub returns : goal.returns
 returns c = record {
-  more-ticks = more_ticks_change_nothing;
+  more_ticks = more_ticks_change_nothing;
   waiting = waiting_spends_all;
   checked = checked_never_stuck;
   reports = reports_only_grow;
