@@ -40,7 +40,7 @@ fn is_main(source: &[u8], tokens: &[Token], at: usize) -> bool
 {
     if is_at(tokens, at, Kind::Name) {
         let token = tokens[at];
-        part(source, token.place as usize, token.length as usize) == b"main"
+        part(source, token.place as usize, token.length as usize) == b"main".as_slice()
     } else {
         false
     }
