@@ -59,7 +59,7 @@ returns c =
           let d =
           global_emitted (scope_of s ns) none q t x k (seen c.args.code.now) (seen c.emit_constant.new.code) (seen c.emit.new.code) h.code c.literal_of-literal.result.value
           c.token_at-constant.result.place c.token_at-place.result.place c.cells_in-cell.result h.begun (simp to_z-of_z at c.emit_constant.ensures) c.emit.ensures w.worth
-          w.constant-there w.there n h.few h.room (rw w.constant-there (placed_at (lexemes s ts) _ _ _ h.placed w.valued))
+          w.constant_there w.there n h.few h.room (rw w.constant_there (placed_at (lexemes s ts) _ _ _ h.placed w.valued))
           (rw w.there (placed_at (lexemes s ts) _ _ _ h.placed w.named)) in
           let e = past_is s ts c.past-2.result c.past-3.result _ _ (past_is s ts _ c.past-2.result _ _ w.valued c.past-2.ensures.next) c.past-3.ensures.next in
           global_done s ts c.args.at (seen c.args.names.now) (seen c.define.new.names) (seen c.args.code.now) q t x k h c.scalar_of-kind.result w.typed w.same

@@ -15,21 +15,21 @@ returns-in-Some c is h =
     let C = seen c.items.code in
     i.2 N C (Ok c.in-Some.rest) (items_ended c.args.source.now c.args.tokens.now c.items.at N C i.0 i.1 c.in-Some.rest c.in-Some.ensures)
 
-pub returns-in_err-at : goal.returns-in_err-at
-returns-in_err-at c =
+pub returns-in_err-at-in-None : goal.returns-in_err-at-in-None
+returns-in_err-at-in-None c =
     let p = err_from_is_err_and c.from_residual.result c.from_residual.ensures.1 in
     rw (p.1, p.2) (λ is h.
     let i = c.items.invariant is h in
     let M = seen c.item.new.names in
     let D = seen c.item.new.code in
-    i.2 M D (Err c.in_err-at.field-0.0)
-    (items_fault c.args.source.now c.args.tokens.now c.items.at (seen c.items.names) (seen c.items.code) M D i.0 i.1 c.in_err-at.field-0.0 c.in-None.ensures
-    c.in_err-at.ensures.same))
+    i.2 M D (Err c.in_err-at-in-None.field-0.0)
+    (items_fault c.args.source.now c.args.tokens.now c.items.at (seen c.items.names) (seen c.items.code) M D i.0 i.1 c.in_err-at-in-None.field-0.0 c.in-None.ensures
+    c.in_err-at-in-None.ensures.same))
 
 pub items-preserved : goal.items-preserved
 items-preserved c =
-    items_further c.args.source.now c.args.tokens.now 0 c.items.at c.in_ok-at.at (seen c.args.names.now) (seen c.items.names) (seen c.item.new.names)
-    (seen c.args.code.now) (seen c.items.code) (seen c.item.new.code) c.items.invariant c.in-None.ensures c.in_ok-at.ensures.same
+    items_further c.args.source.now c.args.tokens.now 0 c.items.at c.in_ok-at-in-None.at (seen c.args.names.now) (seen c.items.names) (seen c.item.new.names)
+    (seen c.args.code.now) (seen c.items.code) (seen c.item.new.code) c.items.invariant c.in-None.ensures c.in_ok-at-in-None.ensures.same
 
 pub returns : goal.returns
 returns c is h =

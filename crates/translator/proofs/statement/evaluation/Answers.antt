@@ -3,7 +3,7 @@ use Rattle.std.proofs.lemmas.Result.{err_from_is_err_and}
 use Rattle.stacks.specs.Held.{seen}
 use Rattle.translator.proofs.Leaves.{evaluated_fails, evaluated_drops, evaluated_leaves}
 use Rattle.translator.proofs.statement.evaluation.Goals as goal
-use Rattle.translator.proofs.statement.evaluation.Goals.{then-done, else_done}
+use Rattle.translator.proofs.statement.evaluation.Goals.{then-done, else-done}
 
 pub returns-in_err-done : goal.returns-in_err-done
 returns-in_err-done c =
@@ -29,6 +29,6 @@ returns c =
           elim c.if-done.branch [
             | then-done w ↦ rw w.code-is (evaluated_drops s ts c.args.at N C D v q c.in_ok-done.ensures.same c.past.ensures.next
                 w.token_at.result (seen w.emit.new.code) w.token_at.ensures w.if-done.true w.emit.ensures)
-            | else_done w ↦ rw w.code-is (evaluated_leaves s ts c.args.at N C D v q c.in_ok-done.ensures.same c.past.ensures.next w.if-done.false)
+            | else-done w ↦ rw w.code-is (evaluated_leaves s ts c.args.at N C D v q c.in_ok-done.ensures.same c.past.ensures.next w.if-done.false)
           ];
     }
