@@ -1,12 +1,11 @@
 -- What crops show. Assumes nothing.
-use Rattle.std.proofs.Common.{◌≡◌, ℕ, ◌+◌, ◌*◌, ◌/◌, ◌%◌, ◌^◌, ◌<◌, ◌≤◌, true, List, length, get_or, ℤ, pos, negsuc, Some, None, sym, refl, ap, ◌∙◌, ⊎_elim, mul_comm, arith}
+use Rattle.std.proofs.Common.{◌≡◌, ℕ, ◌+◌, ◌*◌, ◌/◌, ◌%◌, ◌^◌, ◌<◌, ◌≤◌, true, List, length, ℤ, pos, negsuc, Some, None, refl, ap, ◌∙◌, ⊎_elim, mul_comm, arith}
 use Rattle.std.proofs.lemmas.Nat.{mul-le, mul-add-lt, div-mul-add, mod-mul-add, div_below, mod_below}
 use Rattle.std.proofs.lemmas.List.{get_or_past}
 use Rattle.std.proofs.lemmas.Bool.{cases_lt, lt-ltb, le-ltb}
 use Rattle.std.proofs.lemmas.Bool.Decides.{nat_tests}
 use Rattle.refusal.specs.Told.{accepted, refused}
-use Rattle.boards.specs.Meaning.{Meaning, Sound, zone_answer}
-use Rattle.boards.specs.Table.{table}
+use Rattle.boards.specs.Meaning.{Meaning, zone_answer}
 use Rattle.boards.specs.Crop.{place_of, numbered, zone_or0, cropped, lies_in, ShowsSound, joined, CropOfCrop}
 use Rattle.boards.specs.declared.window.Window.{Window}
 use Rattle.boards.proofs.Tables.{length-table, get_d_table, table_same}

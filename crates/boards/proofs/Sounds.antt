@@ -1,8 +1,8 @@
 -- What keeps a board sound. Assumes nothing.
-use Rattle.std.proofs.Common.{◌≡◌, ◌+◌, ◌<◌, ◌≤◌, Bool, true, false, cond, ltb, List, [], ◌∷◌, ◌++◌, length, ℤ, refl, arith}
+use Rattle.std.proofs.Common.{◌<◌, [], ◌∷◌, ◌++◌, length, ℤ, arith}
 use Rattle.std.proofs.lemmas.List.{length_push}
 use Rattle.std.proofs.lemmas.Bool.{cond_both, ltb-true}
-use Rattle.boards.specs.Meaning.{Meaning, Sound, has_room, with_reports, reported, ReportKeepsSound}
+use Rattle.boards.specs.Meaning.{Meaning, Sound, has_room, with_reports, ReportKeepsSound}
 
 -- one more report, where there is room for it
 with_report : (m : Meaning) (v : ℤ) → Sound m → length m.reports < m.allowance → Sound (with_reports m (m.reports ++ (v ∷ [])))

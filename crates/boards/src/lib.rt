@@ -1,4 +1,6 @@
 // What a script measures: one interface, several kinds.
+#![tactic(auto)]
+
 mod board;
 mod crop;
 mod frame;

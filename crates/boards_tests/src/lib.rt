@@ -1,3 +1,5 @@
+#![tactic(auto)]
+
 // Boards on examples.
 #[cfg(test)]
 mod crops;

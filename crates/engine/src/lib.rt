@@ -1,4 +1,6 @@
 // Load a script, rewind it, and let it go on by ticks.
+#![tactic(auto)]
+
 mod calls;
 mod check;
 mod engine;

@@ -1,5 +1,7 @@
 // A table of scripts, each on a line of standard input: what comes of each, on the board of the program `fennec`, is printed
 // on a line.
+#![tactic(auto)]
+
 mod tests;
 
 use boards::{Board, Stats};

@@ -1,5 +1,7 @@
 // Runs the script on standard input over a small statistics board, and prints what came of it: a line for its refusal; or its
 // reports, its ending and the ticks it spent.
+#![tactic(auto)]
+
 use boards::{Board, Stats};
 use engine::Engine;
 use lexer::{Kind, TOKEN_LIMIT, Token};

@@ -1,5 +1,7 @@
 // Drives an engine as a camera module does: a script measures a part of a frame over several frames, a few ticks each; a
 // script that is refused in between changes nothing; then the run starts anew.
+#![tactic(auto)]
+
 mod fault;
 mod show;
 

@@ -1,5 +1,5 @@
 -- Quotients, low bits and casts, from the bits to the numbers.
-use Rattle.std.proofs.Common.{◌≡◌, ℕ, zero, suc, ◌-◌, ◌/◌, ◌%◌, ◌^◌, ◌<◌, ◌≤◌, true, false, ltb, ℤ, pos, negsuc, ◌-ℤ◌, neg_ℤ, Some, sym, refl, ap, ◌∙◌, mod-lt, mod-eq_of_lt, div-le_self, arith, w8, w32, SFits, to_z, of_z, ltb-false, lt-ltb}
+use Rattle.std.proofs.Common.{◌≡◌, ℕ, zero, suc, ◌-◌, ◌/◌, ◌%◌, ◌^◌, ◌<◌, ◌≤◌, true, false, ltb, ℤ, pos, negsuc, ◌-ℤ◌, neg_ℤ, Some, sym, refl, ap, ◌∙◌, mod-lt, mod-eq_of_lt, div-le_self, arith, w8, w32, SFits, to_z, of_z, ltb-false}
 use lib.Signed.{lt_z, quot_z}
 use Rattle.std.specs.Int.{int_rem_euclid, int_wrap}
 use Rattle.std.proofs.lemmas.Int.{ints, to_z-of_z, to_z_pos, of_z-to_z, int_wrap_fits}

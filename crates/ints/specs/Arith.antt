@@ -1,5 +1,5 @@
 -- Numbers with a sign, of a given width: one definition for whatever computes with them.
-use Rattle.std.specs.Prelude.{ℕ, Bool, true, false, cond, ℤ, pos, negsuc, ◌+ℤ◌, ◌-ℤ◌, ◌*ℤ◌, Some, None, Option, ◌==◌, int_div, int_lt, int_rem}
+use Rattle.std.specs.Prelude.{Bool, false, cond, ℤ, pos, negsuc, ◌+ℤ◌, ◌-ℤ◌, ◌*ℤ◌, Some, None, Option, ◌==◌, int_div, int_lt, int_rem}
 use Rattle.std.specs.Int.{int_wrap, Width, w8}
 use Rattle.ints.specs.declared.operator.Operator.{Operator}
 use Rattle.ints.specs.declared.operator.Operator.TheVariants.{Add, Sub, Mul, Div, Rem, Less, Greater, Equal}

@@ -1,4 +1,6 @@
 // Whole numbers of 32 bits with a sign, as the stack machine computes with them.
+#![tactic(auto)]
+
 mod binary;
 mod operator;
 mod unary;

@@ -6,12 +6,12 @@ use Rattle.meaning.specs.declared.operator.Scalar.{Scalar}
 use Rattle.meaning.specs.declared.operator.Scalar.TheVariants.{Bool as bool, Char as char, Int as int}
 use Rattle.meaning.specs.declared.operator.Operator.{Operator}
 use Rattle.meaning.specs.declared.operator.Operator.TheVariants.{Add, Subtract, Multiply, Divide, Remainder, Less, LessEqual, Greater, GreaterEqual, Equal, NotEqual, And, Or}
-use Rattle.meaning.specs.Trees.{Ident, Constant, number, character, truth, Unary, negate, invert, Expr, constant, variable, call, bracket, unary, binary, Args, no_args, args, Exprs, last, more, Stmt, block, define, assign, modify, evaluate, if_then, if_else, while, do_while, for_to, break, continue, return, return_bare, Stmts, nil, cons, Return, void, gives, Item, extern, global, Script}
+use Rattle.meaning.specs.Trees.{Constant, number, character, truth, Unary, negate, invert, Expr, constant, variable, call, bracket, unary, binary, Args, no_args, args, Exprs, last, more, Stmt, block, define, assign, modify, evaluate, if_then, if_else, while, do_while, for_to, break, continue, return, return_bare, Stmts, nil, cons, Item, extern, global, Script}
 use Rattle.meaning.specs.Scopes.{Callee, zone, columns, rows, report, main, Names, level, stop, function, Meant, absent, a_variable, a_function, same_name, lookup, cells}
 use Rattle.meaning.specs.Scopes
-use Rattle.meaning.specs.Types.{operator_of, parameter_types, listed, signature}
+use Rattle.meaning.specs.Types.{operator_of, parameter_types, listed}
 use Rattle.meaning.specs.Check.{Scope, type_of}
-use Rattle.meaning.specs.Values.{Value, of_bool, of_char, of_int, constant_value}
+use Rattle.meaning.specs.Values.{Value, of_bool, of_char, of_int}
 use Rattle.machine.specs.declared.instruction.Instruction.{Instruction}
 
 -- an instruction: its code, its operand, and the place that it was made for

@@ -12,7 +12,7 @@ use Rattle.meaning.specs.Depths.{expr_depths, args_depths, exprs_depths, stmt_de
 use Rattle.meaning.specs.Grammar.{looseness, Grouped, GroupedArgs, GroupedExprs, Proper, Propers, Grammatical}
 use Rattle.meaning.specs.Scopes.{Callee, zone, columns, rows, report, main, level, function}
 use Rattle.meaning.specs.Types.{same_types, signature, operator_of}
-use Rattle.meaning.specs.Check.{Scope, then, called, type_of, arg_types, expr_types, needs_type, check_whole, check_stmt, check_stmts, check_items, check_script}
+use Rattle.meaning.specs.Check.{Scope, called, type_of, arg_types, expr_types, needs_type, check_whole, check_stmt, check_stmts, check_items, check_script}
 use Rattle.meaning.proofs.Fits.{false_true}
 use Rattle.meaning.proofs.Sound.{then_passed, needs_passed}
 use Rattle.layout.proofs.Compiled.{shape_of, for_scope}

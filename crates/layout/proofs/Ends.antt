@@ -1,11 +1,11 @@
 -- The code of a tree takes the room that its end position says, and code is never empty where a jump must go forward.
-use Rattle.std.proofs.Common.{◌≡◌, ℕ, ◌+◌, ◌<◌, ◌≤◌, max, Bool, true, false, List, [], ◌∷◌, ◌++◌, pos, sym, refl, ap, ◌∙◌, arith}
-use Rattle.meaning.specs.Trees.{Constant, Unary, negate, invert, Expr, constant, variable, call, bracket, unary, binary, Args, no_args, args, Exprs, last, more, Stmt, block, define, assign, modify, evaluate, if_then, if_else, while, do_while, for_to, break, continue, return, return_bare, Stmts, nil, cons}
+use Rattle.std.proofs.Common.{◌≡◌, ℕ, ◌+◌, ◌<◌, ◌≤◌, Bool, true, false, List, [], ◌∷◌, ◌++◌, refl, ◌∙◌, arith}
+use Rattle.meaning.specs.Trees.{Unary, negate, invert, Expr, constant, variable, call, bracket, unary, binary, Args, no_args, args, Exprs, last, more, Stmt, block, define, assign, modify, evaluate, if_then, if_else, while, do_while, for_to, break, continue, return, return_bare, Stmts, nil, cons}
 use Rattle.meaning.specs.Scopes.{level}
 use Rattle.meaning.specs.Types.{operator_of}
-use Rattle.meaning.specs.Check.{Scope, type_of}
+use Rattle.meaning.specs.Check.{Scope}
 use Rattle.machine.specs.declared.instruction.Instruction.{Instruction}
-use Rattle.layout.proofs.Compiled.{ins, is_char, low, codes_of, Shape, strict, both, either, shape_of, plainly, past, binary_end, unary_end, expr_end, args_end, exprs_end, binary_code, unary_code, expr_code, args_code, exprs_code, drop_end, drop_code, leaves_nothing, scope_after, for_scope, stmt_end, stmts_end, stmt_code, stmts_code}
+use Rattle.layout.proofs.Compiled.{low, Shape, strict, both, either, shape_of, plainly, past, binary_end, unary_end, expr_end, args_end, exprs_end, binary_code, unary_code, expr_code, args_code, exprs_code, drop_end, drop_code, leaves_nothing, scope_after, for_scope, stmt_end, stmts_end, stmt_code, stmts_code}
 use Rattle.layout.proofs.Walk.{after, after-append}
 
 pub after-plainly : (cs : List ℕ) (p o : ℕ) → after (plainly cs p) o ≡ past cs o

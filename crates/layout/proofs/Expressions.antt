@@ -1,36 +1,35 @@
 -- The code of an expression does what the expression means: it walks to its end with the value on the stack, or the run
 -- stops where the source run stops.
-use Rattle.std.proofs.Common.{◌≡◌, ℕ, suc, ◌+◌, ◌<◌, ◌≤◌, max, Bool, true, false, cond, ◌&&◌, ◌||◌, List, [], ◌∷◌, ◌++◌, length, get_or, ℤ, pos, Some, None, Option, sym, refl, ap, ◌∙◌, subst, arith}
+use Rattle.std.proofs.Common.{◌≡◌, ℕ, ◌+◌, ◌<◌, ◌≤◌, max, Bool, true, false, cond, List, [], ◌∷◌, ◌++◌, length, ℤ, pos, Some, None, Option, sym, refl, ap, ◌∙◌, subst, arith}
 use Rattle.refusal.specs.Told.{Told, accepted, refused}
 use Rattle.std.specs.List.{slice_get}
-use Rattle.boards.specs.Meaning.{Meaning, zone_answer, report_answer, reported}
-use Rattle.ints.specs.Arith.{is_zero}
+use Rattle.boards.specs.Meaning.{zone_answer, report_answer, reported}
 use Rattle.meaning.specs.declared.operator.Scalar.{Scalar}
 use Rattle.meaning.specs.declared.operator.Scalar.TheVariants.{Bool as bool, Char as char, Int as int}
 use Rattle.meaning.specs.declared.operator.Operator.{Operator}
 use Rattle.meaning.specs.declared.operator.Operator.TheVariants.{Add, Subtract, Multiply, Divide, Remainder, Less, LessEqual, Greater, GreaterEqual, Equal, NotEqual, And, Or}
-use Rattle.meaning.specs.Trees.{Ident, Constant, number, character, truth, Unary, negate, invert, Expr, constant, variable, call, bracket, unary, binary, Args, no_args, args, Exprs, last, more, Return, void, gives}
+use Rattle.meaning.specs.Trees.{Ident, number, character, truth, Unary, negate, invert, Expr, constant, variable, call, bracket, unary, binary, Args, no_args, args, Exprs, last, more, Return}
 use Rattle.meaning.specs.Scopes.{Callee, zone, columns, rows, report, main, Names, Meant, absent, a_variable, a_function, lookup, cells}
-use Rattle.meaning.specs.Types.{result_of, unary_result, same_types, signature}
-use Rattle.meaning.specs.Check.{Scope, then, needs, there, as_variable, as_callee, called, value, type_of, arg_types, expr_types}
+use Rattle.meaning.specs.Types.{result_of, same_types, signature}
+use Rattle.meaning.specs.Check.{Scope, as_variable, as_callee, called, type_of, arg_types, expr_types}
 use Rattle.meaning.specs.Values.{Value, of_bool, of_char, of_int, value_type, constant_value, Result, zero_divisor, mistyped, short_circuit, decided, open_still, apply, apply_unary}
 use Rattle.meaning.specs.Values
 use Rattle.meaning.specs.Run
 use Rattle.meaning.specs.Run.{Ending, returned, waiting, divided, stuck, State, Evaluated, comes_to, ends, then_eval, result, read_variable, operate, answered, invoke, invoke_meant, needs_value, eval, eval_args, eval_exprs}
 use Rattle.meaning.proofs.Erased.{erase, erase_meant, lookup-erase}
-use Rattle.meaning.proofs.Fits.{none_some, false_true, Fits, apply_fits, unary_fits}
-use Rattle.meaning.proofs.Sound.{then_passed, needs_passed, there_passed, refused_accepted, types, Returned, TypedE, eval_typed, eval_args_typed, eval_exprs_typed, callee_known, logical}
+use Rattle.meaning.proofs.Fits.{none_some, false_true}
+use Rattle.meaning.proofs.Sound.{then_passed, needs_passed, there_passed, refused_accepted, types, TypedE, eval_typed, callee_known}
 use Rattle.machine.specs.declared.instruction.Instruction.{Instruction}
 use Rattle.machine.specs.Endings
 use Rattle.machine.specs.Endings.{End, refused_by}
 use Rattle.machine.specs.Codes.{place_at}
 use Rattle.machine.specs.Steps as Machine
 use Rattle.machine.specs.Steps.{Next, go, stop, wait, step}
-use Rattle.layout.proofs.Compiled.{ins, held, cell_of, is_char, low, codes_of, Shape, strict, both, either, shape_of, plainly, past, call_code, binary_end, unary_end, expr_end, args_end, exprs_end, binary_code, unary_code, expr_code, args_code, exprs_code}
+use Rattle.layout.proofs.Compiled.{ins, held, cell_of, is_char, low, codes_of, strict, both, either, shape_of, plainly, past, call_code, expr_end, args_end, exprs_end, binary_code, expr_code, args_code, exprs_code}
 use Rattle.layout.proofs.Walk
 use Rattle.layout.proofs.Walk.{mach, Stands, after, cut, Steps, here, on, joined, push_goes, load_goes, jump_goes, zero_goes, nonzero_goes, forward, step_is}
 use Rattle.layout.proofs.Operate.{is_of_char, Makes, apply_makes, minus_makes, not_makes}
-use Rattle.layout.proofs.Ends.{expr_after, args_after, exprs_after, expr_grows}
+use Rattle.layout.proofs.Ends.{expr_after, args_after, expr_grows}
 use Rattle.layout.proofs.Holds.{Holds, cells-erase, cell_of-erase, holds-lookup}
 use Rattle.layout.proofs.Room.{expr_needs, args_need, exprs_need, needs-one}
 

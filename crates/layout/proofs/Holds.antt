@@ -1,9 +1,7 @@
 -- How the machine's cells hold the names of a run: the k-th cell that was taken holds the k-th variable or stop.
-use Rattle.std.proofs.Common.{◌≡◌, ℕ, suc, ◌+◌, ◌<◌, ◌≤◌, Bool, true, false, cond, ◌≢◌, List, [], ◌∷◌, length, get_or, set, ℤ, pos, sym, refl, ap, ◌∙◌, arith, get_or-set_other, get_or-set_same}
-use Rattle.meaning.specs.declared.operator.Scalar.{Scalar}
-use Rattle.meaning.specs.Scopes.{Callee, callee_name, same_name, Names, level, variable, stop, function, Meant, absent, a_variable, a_function, lookup, leave, assigned, cells}
-use Rattle.meaning.specs.Check.{Scope}
-use Rattle.meaning.specs.Values.{Value, value_type}
+use Rattle.std.proofs.Common.{◌≡◌, ℕ, suc, ◌<◌, ◌≤◌, Bool, true, false, cond, ◌≢◌, List, [], ◌∷◌, length, get_or, set, ℤ, pos, refl, ap, ◌∙◌, arith, get_or-set_other, get_or-set_same}
+use Rattle.meaning.specs.Scopes.{callee_name, same_name, Names, level, variable, stop, function, a_variable, a_function, lookup, leave, assigned, cells}
+use Rattle.meaning.specs.Values.{Value}
 use Rattle.meaning.proofs.Erased.{erase}
 use Rattle.layout.proofs.Compiled.{held, cell_of}
 

@@ -1,8 +1,7 @@
 -- The low 8 bits of what wraps at 32 bits are the low 8 bits.
-use Rattle.std.proofs.Common.{◌≡◌, ℕ, suc, ◌+◌, ◌-◌, ◌%◌, ◌^◌, ◌<◌, ◌≤◌, Bool, true, false, ltb, ℤ, pos, negsuc, nat_abs, sym, refl, ap, ◌∙◌, arith, w8, w32, to_z}
+use Rattle.std.proofs.Common.{◌≡◌, ℕ, suc, ◌-◌, ◌%◌, ◌<◌, Bool, true, false, ltb, ℤ, pos, negsuc, nat_abs, refl, ap, ◌∙◌, arith, w8, w32, to_z}
 use mir.Val.{sel}
 use Rattle.std.specs.Int.{int_rem_euclid, int_wrap}
-use Rattle.std.proofs.lemmas.Bool.Decides.{nat_tests}
 
 -- a number below 2 ^ 32, read with a sign, is the same modulo 256
 signed : (n : ℕ) → n < 4294967296 → nat_abs (int_rem_euclid (to_z w32 n) (pos 256)) ≡ n % 256

@@ -1,5 +1,5 @@
 -- What the codes of an operator do with its operands on the stack.
-use Rattle.std.proofs.Common.{◌≡◌, ℕ, zero, suc, ◌+◌, Bool, true, false, cond, not, List, [], ◌∷◌, ℤ, pos, negsuc, ◌-ℤ◌, neg_ℤ, Some, None, sym, refl, ap, ◌∙◌, zero-add, arith, w8, w32}
+use Rattle.std.proofs.Common.{◌≡◌, ℕ, ◌+◌, Bool, true, false, cond, not, List, [], ◌∷◌, ℤ, pos, negsuc, ◌-ℤ◌, neg_ℤ, Some, None, refl, ap, ◌∙◌, arith, w8, w32}
 use lib.Signed.{lt_z, le_z, rem_z, quot_z}
 use mir.Syntax.{Width}
 use Rattle.refusal.specs.Told.{accepted}
@@ -22,7 +22,7 @@ use Rattle.machine.specs.declared.instruction.Instruction.{Instruction}
 use Rattle.machine.specs.Endings
 use Rattle.machine.specs.Codes.{plain, binary, unary, operation_of}
 use Rattle.machine.specs.Steps.{go, stop, step}
-use Rattle.layout.proofs.Compiled.{ins, held, is_char, low, codes_of, Shape, strict, shape_of, plainly, past}
+use Rattle.layout.proofs.Compiled.{ins, held, is_char, low, codes_of, strict, shape_of, plainly, past}
 use Rattle.layout.proofs.Walk.{mach, Stands, Steps, here, on, step_is}
 use Rattle.layout.proofs.Low.{low_of_wrapped}
 

@@ -1,5 +1,5 @@
 -- How many values an expression needs on the stack, above what lies there.
-use Rattle.std.proofs.Common.{◌≡◌, ℕ, ◌+◌, ◌≤◌, max, arith}
+use Rattle.std.proofs.Common.{ℕ, ◌+◌, ◌≤◌, max, arith}
 use Rattle.meaning.specs.Trees.{Unary, negate, invert, Expr, constant, variable, call, bracket, unary, binary, Args, no_args, args, Exprs, last, more, Stmt, block, define, assign, modify, evaluate, if_then, if_else, while, do_while, for_to, break, continue, return, return_bare, Stmts, nil, cons}
 use Rattle.meaning.specs.Types.{operator_of}
 use Rattle.layout.proofs.Compiled.{Shape, strict, both, either, shape_of}

@@ -1,13 +1,13 @@
 -- The code of a whole script is faithful to it.
-use Rattle.std.proofs.Common.{◌≡◌, ℕ, zero, suc, ◌+◌, ◌-◌, ◌<◌, ◌≤◌, Bool, true, false, List, [], ◌∷◌, ◌++◌, length, set, replicate, ℤ, pos, Some, None, Option, sym, refl, ap, ◌∙◌, subst, append_assoc, add_assoc, zero-add, arith, length-append, length-set}
-use Rattle.refusal.specs.Told.{Told, accepted, refused}
+use Rattle.std.proofs.Common.{◌≡◌, ℕ, ◌+◌, ◌<◌, ◌≤◌, false, List, [], ◌∷◌, ◌++◌, length, set, replicate, ℤ, pos, Some, None, Option, sym, refl, ap, ◌∙◌, subst, append_assoc, add_assoc, zero-add, arith, length-append, length-set}
+use Rattle.refusal.specs.Told.{accepted}
 use Rattle.std.specs.List.{slice_get}
 use Rattle.boards.specs.Meaning.{Meaning}
 use Rattle.meaning.specs.declared.operator.Scalar.{Scalar}
 use Rattle.meaning.specs.Trees.{Ident, Constant, number, character, truth, Item, extern, global, Script}
 use Rattle.meaning.specs.Scopes.{Callee, main, Names, level, function, cells}
 use Rattle.meaning.specs.Scopes
-use Rattle.meaning.specs.Types.{same_type, constant_type, parameter_types, listed}
+use Rattle.meaning.specs.Types.{constant_type, parameter_types, listed}
 use Rattle.meaning.specs.Check.{Scope, declared, check_item, check_items, check_stmts, check_script}
 use Rattle.meaning.specs.Values.{Value, value_type, constant_value}
 use Rattle.meaning.specs.Run
@@ -17,8 +17,6 @@ use Rattle.meaning.proofs.Follows.{HoldsF, run_all_holds}
 use Rattle.meaning.proofs.Fits.{false_true, same_type_lem}
 use Rattle.meaning.proofs.Sound
 use Rattle.machine.specs.declared.instruction.Instruction.{Instruction}
-use Rattle.machine.specs.Codes.{place_at}
-use Rattle.machine.specs.Endings
 use Rattle.machine.specs.Operations.{How}
 use Rattle.machine.specs.Steps as Machine
 use Rattle.machine.specs.Steps.{go, stop, wait, step}
@@ -27,12 +25,12 @@ use Rattle.machine.specs.Runs
 use Rattle.machine.proofs.Equations.{run_go, run_stop, run_wait}
 use Rattle.layout.specs.Faithful.{end_alike, Alike, Faithful}
 use Rattle.layout.proofs.Compiled.{ins, held, literal_code, scope_listed, items_scope, items_end, items_code, main_scope, stmts_end, stmts_code, script_code}
-use Rattle.layout.proofs.Walk.{mach, Stands, after, after-append, cut, Steps, here, on, joined, push_goes, store_goes, step_is}
+use Rattle.layout.proofs.Walk.{mach, Stands, after, cut, Steps, here, on, joined, push_goes, store_goes, step_is}
 use Rattle.layout.proofs.Ends.{stmts_after}
 use Rattle.layout.proofs.Holds.{Holds, cells-erase, holds_new}
 use Rattle.layout.proofs.Room.{stmts_need}
-use Rattle.layout.proofs.Expressions.{last_step, Halts, Stopped, halts_later, place_is}
-use Rattle.layout.proofs.Statements.{At, AfterF, later_f, Good, defined-room, run_all_after}
+use Rattle.layout.proofs.Expressions.{Halts, Stopped, place_is}
+use Rattle.layout.proofs.Statements.{At, AfterF, Good, defined-room, run_all_after}
 
 later-none : (r : Ran) → r ≡ later 0 r
 later-none r = ap (ran r.how r.state) (sym (zero-add r.carried))

@@ -1,18 +1,18 @@
 -- A script's code has at most four instructions for each of its tokens.
-use Rattle.std.proofs.Common.{◌≡◌, ℕ, suc, ◌+◌, ◌*◌, ◌≤◌, Bool, true, false, List, [], ◌∷◌, ◌++◌, length, pos, sym, refl, ap, ◌∙◌, arith, length-append}
+use Rattle.std.proofs.Common.{◌≡◌, ℕ, ◌+◌, ◌*◌, ◌≤◌, Bool, true, false, List, [], ◌∷◌, ◌++◌, length, pos, arith, length-append}
 use mathlib.Core.Option.{Option, none, some}
 use Rattle.lexer.specs.Lexeme.{Lexeme}
 use Rattle.lexer.specs.declared.kind.Kind.TheVariants as K
 use Rattle.meaning.specs.declared.operator.Operator.{Operator}
 use Rattle.meaning.specs.declared.operator.Operator.TheVariants.{Add, Subtract, Multiply, Divide, Remainder, Less, LessEqual, Greater, GreaterEqual, Equal, NotEqual, And, Or}
-use Rattle.meaning.specs.Trees.{Constant, number, character, truth, Unary, negate, invert, Expr, constant, variable, call, bracket, unary, binary, Args, no_args, args, Exprs, last, more, Modifier, Stmt, block, define, assign, modify, evaluate, if_then, if_else, while, do_while, for_to, break, continue, return, return_bare, Stmts, nil, cons, Parameter, nothing, takes, Item, extern, global, Script}
-use Rattle.meaning.specs.Written.{sign, ident, literal, binary_kind, type_kind, modifier_kind, expr_lexemes, args_lexemes, exprs_lexemes, stmt_lexemes, stmts_lexemes, parameter_lexemes, static_lexemes, items_lexemes, main_name, head_lexemes, script_lexemes}
+use Rattle.meaning.specs.Trees.{Unary, negate, invert, Expr, constant, variable, call, bracket, unary, binary, Args, no_args, args, Exprs, last, more, Stmt, block, define, assign, modify, evaluate, if_then, if_else, while, do_while, for_to, break, continue, return, return_bare, Stmts, nil, cons, Parameter, nothing, takes, Item, extern, global, Script}
+use Rattle.meaning.specs.Written.{sign, ident, literal, binary_kind, type_kind, expr_lexemes, args_lexemes, exprs_lexemes, stmt_lexemes, stmts_lexemes, parameter_lexemes, static_lexemes, items_lexemes, main_name, head_lexemes, script_lexemes}
 use Rattle.meaning.specs.Scopes.{level}
 use Rattle.meaning.specs.Types.{operator_of}
 use Rattle.meaning.specs.Check.{Scope, type_of}
 use Rattle.machine.specs.declared.instruction.Instruction.{Instruction}
-use Rattle.layout.proofs.Compiled.{ins, is_char, low, codes_of, shape_of, past, binary_end, unary_end, expr_end, args_end, exprs_end, drop_end, leaves_nothing, scope_after, for_scope, stmt_end, stmts_end, stmts_code, items_end, items_code, main_scope, script_code}
-use Rattle.layout.proofs.Walk.{after, after-append}
+use Rattle.layout.proofs.Compiled.{ins, is_char, codes_of, shape_of, binary_end, unary_end, expr_end, args_end, exprs_end, drop_end, leaves_nothing, scope_after, for_scope, stmt_end, stmts_end, stmts_code, items_end, items_code, main_scope, script_code}
+use Rattle.layout.proofs.Walk.{after}
 use Rattle.layout.proofs.Ends.{stmts_after}
 use Rattle.layout.proofs.Scripts.{items_end_lem}
 

@@ -1,41 +1,38 @@
 -- The code of a statement does what the statement means: it walks to the position after it, to the target of a `break` or
 -- of a `continue`, or the run stops where the source run stops. The stack is empty between statements.
-use Rattle.std.proofs.Common.{◌≡◌, ℕ, zero, suc, ◌+◌, ◌<◌, ◌≤◌, max, Bool, true, false, cond, ◌&&◌, ◌⊎◌, List, [], ◌∷◌, ◌++◌, length, get_or, set, ℤ, pos, ◌+ℤ◌, Some, None, Option, sym, refl, ap, ◌∙◌, subst, inl, inr, arith, length-set, get_or-set_other, get_or-set_same, w32}
+use Rattle.std.proofs.Common.{◌≡◌, ℕ, zero, suc, ◌+◌, ◌<◌, ◌≤◌, Bool, true, false, cond, ◌⊎◌, List, [], ◌∷◌, ◌++◌, length, get_or, set, ℤ, pos, ◌+ℤ◌, Some, None, Option, sym, refl, ap, ◌∙◌, subst, inl, inr, arith, length-set, get_or-set_other, get_or-set_same, w32}
 use lib.Signed.{lt_z}
-use Rattle.refusal.specs.Told.{Told, accepted, refused}
+use Rattle.refusal.specs.Told.{Told, accepted}
 use Rattle.std.specs.List.{slice_get}
 use Rattle.std.proofs.lemmas.Bool.Decides.{nat_tests}
 use Rattle.std.specs.Int.{int_wrap}
-use Rattle.boards.specs.Meaning.{Meaning}
-use Rattle.ints.specs.Arith.{is_zero, flag}
+use Rattle.ints.specs.Arith.{flag}
 use Rattle.ints.specs.declared.operator.Operator.TheVariants as O
 use Rattle.meaning.specs.declared.operator.Scalar.{Scalar}
-use Rattle.meaning.specs.declared.operator.Scalar.TheVariants.{Bool as bool, Char as char, Int as int}
-use Rattle.meaning.specs.Trees.{Ident, Expr, constant, variable, call, bracket, unary, binary, Args, Modifier, Stmt, block, define, assign, modify, evaluate, if_then, if_else, while, do_while, for_to, break, continue, return, return_bare, Stmts, nil, cons, Return, void, gives}
+use Rattle.meaning.specs.declared.operator.Scalar.TheVariants.{Bool as bool, Int as int}
+use Rattle.meaning.specs.Trees.{Ident, Expr, constant, variable, call, bracket, unary, binary, Args, Stmt, block, define, assign, modify, evaluate, if_then, if_else, while, do_while, for_to, break, continue, return, return_bare, Stmts, nil, cons, Return, void, gives}
 use Rattle.meaning.specs.Scopes.{Callee, zone, columns, rows, report, main, Names, level, stop, function, Meant, absent, a_variable, a_function, lookup, leave, assigned, cells}
 use Rattle.meaning.specs.Scopes
-use Rattle.meaning.specs.Types.{same_type, result_of, operator_of, signature}
-use Rattle.meaning.specs.Check.{Scope, then, needs, there, room, as_variable, as_callee, called, type_of, arg_types, needs_type, check_whole, defined, check_stmt, check_stmts}
+use Rattle.meaning.specs.Types.{operator_of, signature}
+use Rattle.meaning.specs.Check.{Scope, needs, room, as_variable, as_callee, called, type_of, arg_types, needs_type, check_whole, defined, check_stmt, check_stmts}
 use Rattle.meaning.specs.Values.{Value, of_bool, of_char, of_int, value_type}
-use Rattle.meaning.specs.Run
-use Rattle.meaning.specs.Run.{Ending, returned, waiting, divided, stuck, State, with_names, Evaluated, comes_to, ends, then_eval, invoke_meant, eval, eval_args, eval_whole, Flow, next, broke, continued, ended, given, then_flow, choose, as_int, outside, leaving, in_level, store, defining, spend, again, loop, looping, after_body, Counting, counts, no_count, counting, below, adding, while_round, do_round, for_round, run, run_all}
-use Rattle.meaning.proofs.Erased.{erase, erase_meant, lookup-erase, leave-erase}
+use Rattle.meaning.specs.Run.{returned, waiting, State, with_names, Evaluated, comes_to, ends, then_eval, invoke_meant, eval, eval_args, eval_whole, Flow, next, broke, continued, ended, given, then_flow, choose, as_int, outside, leaving, in_level, store, defining, spend, again, loop, looping, after_body, counts, counting, below, adding, while_round, do_round, for_round, run, run_all}
+use Rattle.meaning.proofs.Erased.{erase, erase_meant, lookup-erase}
 use Rattle.meaning.proofs.Follows.{HoldsF, eval_holds, run_holds, while_round-holds, do_round-holds, for_round-holds}
-use Rattle.meaning.proofs.Fits.{false_true, same_type_lem}
+use Rattle.meaning.proofs.Fits.{same_type_lem}
 use Rattle.meaning.proofs.Sound
 use Rattle.meaning.proofs.Sound.{eval_typed}
 use Rattle.machine.specs.declared.instruction.Instruction.{Instruction}
 use Rattle.machine.specs.Codes.{may_land}
-use Rattle.machine.specs.Endings
 use Rattle.machine.specs.Steps as Machine
 use Rattle.machine.specs.Steps.{go, stop, wait, step}
 use Rattle.layout.proofs.Compiled.{ins, held, cell_of, expr_end, args_end, expr_code, args_code, call_code, gives_nothing, leaves_nothing, drop_end, drop_code, scope_after, for_scope, stmt_end, stmts_end, stmt_code, stmts_code}
 use Rattle.layout.proofs.Walk.{mach, Stands, after, after-append, cut, Steps, here, on, joined, push_goes, load_goes, store_goes, drop-goes, jump_goes, zero_goes, nonzero_goes, tick_goes, tick_waits, forward, onto_tick, step_is}
 use Rattle.layout.proofs.Operate
-use Rattle.layout.proofs.Ends.{expr_after, args_after, stmt_after, stmts_after, expr_grows, stmt_grows, stmts_grow}
+use Rattle.layout.proofs.Ends.{expr_after, args_after, stmt_after, expr_grows, stmt_grows, stmts_grow}
 use Rattle.layout.proofs.Holds.{Holds, cells-erase, cell_of-erase, holds-lookup, holds_beyond, holds_new, holds-assigned, holds-leave}
-use Rattle.layout.proofs.Room.{expr_needs, stmt_needs, stmts_need, needs-one}
-use Rattle.layout.proofs.Expressions.{Stopped, stopped-later, halts_later, place_is, Ready, After, AfterT, AfterCall, eval_after, args_done, with_type, call_case, AfterArgs}
+use Rattle.layout.proofs.Room.{expr_needs, stmt_needs, stmts_need}
+use Rattle.layout.proofs.Expressions.{Stopped, stopped-later, place_is, Ready, AfterT, AfterCall, eval_after, args_done, with_type, call_case}
 
 module _ (C : List Instruction) where
   -- the machine has walked from u to the position z, its cells hold the names of N, and its stack is empty

@@ -1,15 +1,13 @@
 -- Walking through code: what stands where, and one lemma for each instruction that goes on.
-use Rattle.std.proofs.Common.{◌≡◌, ℕ, zero, suc, ◌+◌, ◌<◌, ◌≤◌, Bool, true, false, cond, ◌||◌, ltb, List, [], ◌∷◌, ◌++◌, length, get_or, set, ℤ, pos, negsuc, Some, None, Option, sym, refl, ap, ◌∙◌, arith}
+use Rattle.std.proofs.Common.{◌≡◌, ℕ, suc, ◌+◌, ◌<◌, Bool, true, false, ◌||◌, ltb, List, [], ◌∷◌, ◌++◌, length, get_or, set, ℤ, pos, Some, refl, ◌∙◌, arith}
 use Rattle.std.proofs.lemmas.Bool.Decides.{nat_tests}
 use Rattle.std.specs.List.{slice_get}
-use Rattle.ints.specs.Arith.{is_zero, compute, changed}
-use Rattle.ints.specs.declared.operator.Operator
-use Rattle.ints.specs.declared.operator.Unary
+use Rattle.ints.specs.Arith.{is_zero}
 use Rattle.boards.specs.Meaning.{Meaning}
 use Rattle.machine.specs.declared.instruction.Instruction.{Instruction}
-use Rattle.machine.specs.Codes.{is_tick, may_land, operation_of}
-use Rattle.machine.specs.Steps.{State, at, Next, go, stop, wait, step, performed}
-use Rattle.layout.proofs.Compiled.{ins, past, plainly}
+use Rattle.machine.specs.Codes.{may_land, operation_of}
+use Rattle.machine.specs.Steps.{State, at, go, wait, step, performed}
+use Rattle.layout.proofs.Compiled.{ins}
 
 -- a state of the machine
 abbrev pub mach : (cells stack : List ℤ) (position left : ℕ) → Meaning → State

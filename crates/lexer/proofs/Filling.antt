@@ -7,7 +7,7 @@ use Rattle.refusal.specs.Told.{Told, accepted, refused}
 use Rattle.lexer.specs.declared.kind.Token.{Token}
 use Rattle.lexer.specs.declared.reader.State.{State}
 use Rattle.lexer.specs.declared.reader.State.TheVariants.{Code}
-use Rattle.lexer.specs.Reading.{Fault, fault, Reading, stopped, reading_from, reading, told_of, written, answer_by, list_by, text_of, text_at}
+use Rattle.lexer.specs.Reading.{Fault, Reading, stopped, reading_from, reading, told_of, written, answer_by, list_by, text_of, text_at}
 use Rattle.lexer.specs.Scans.{ahead, after_next, Next, lengths_by, stored_told, stored_list}
 
 -- tokens before a reading

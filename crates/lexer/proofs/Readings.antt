@@ -9,7 +9,7 @@ use Rattle.lexer.specs.declared.reader.State.{State}
 use Rattle.lexer.specs.declared.reader.State.TheVariants.{Code, LineComment, LongComment}
 use Rattle.lexer.specs.Classes.{class_of, is_blank, is_letter, is_digit, is_mark}
 use Rattle.lexer.specs.Spelling.{begins}
-use Rattle.lexer.specs.Reading.{Front, between, token, wrong, token_front, comment_or, code_front, front, Fault, none, fault, Reading, stopped, ended, follow, reading_from, reading}
+use Rattle.lexer.specs.Reading.{Front, between, token, wrong, token_front, comment_or, code_front, front, Fault, none, fault, Reading, stopped, ended, follow, reading_from}
 use Rattle.lexer.specs.Laws.{Line, feed, end, more, Long, close, further, Unclosed, Gap, empty, blank, line, long, Begins, stray, unclosed, bad_character, too_large, too_many, Reads}
 use Rattle.lexer.proofs.Ahead.{skipped}
 use Rattle.lexer.proofs.Judged.{Judged, judged, longest_bytes}

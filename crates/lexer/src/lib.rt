@@ -1,4 +1,6 @@
 // The tokens of a script.
+#![tactic(auto)]
+
 mod class;
 mod kind;
 mod list;

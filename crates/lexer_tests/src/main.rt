@@ -1,6 +1,8 @@
 // A table of sources, read one by one. A line of standard input has three words: how often the first bytes stand, these
 // bytes, and the bytes after them, in hexadecimal digits, `-` for none. What each source comes to is printed on a line: the
 // answer, how many records of the token list have changed, and those records (of many only the last).
+#![tactic(auto)]
+
 ghost use Rattle.std.specs.Prelude.{◌<◌};
 
 mod tests;

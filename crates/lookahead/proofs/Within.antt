@@ -1,7 +1,6 @@
 -- The classes of tokens within a list.
 use Rattle.std.proofs.Common.{◌≡◌, ℕ, zero, suc, ◌<◌, true, List, [], ◌∷◌, length, arith}
 use Rattle.lexer.specs.declared.kind.Kind.{Kind}
-use Rattle.lexer.specs.declared.kind.Kind.TheVariants as Kinds
 use Rattle.lexer.specs.declared.kind.Token.{Token}
 use Rattle.lookahead.specs.declared.class.Start.{Start}
 use Rattle.lookahead.specs.declared.class.Start.TheVariants.{Name, Constant, Prefix, Bracket, Nothing}

@@ -1,4 +1,6 @@
 // What stands at a place in a list of tokens, as the grammar sees it.
+#![tactic(auto)]
+
 mod class;
 mod head;
 mod kinds;

@@ -1,5 +1,5 @@
 -- From what the loop says to the call.
-use Rattle.std.proofs.Common.{◌≡◌, ℕ, ◌+◌, ◌-◌, ◌≤◌, ◌⊎◌, List, Some, None, Option, sym, refl, ap, ◌∙◌, subst, inl, inr}
+use Rattle.std.proofs.Common.{◌≡◌, ℕ, ◌+◌, ◌-◌, ◌≤◌, ◌⊎◌, List, None, Option, sym, refl, ap, ◌∙◌, subst, inl, inr}
 use Rattle.boards.specs.Meaning.{Meaning}
 use Rattle.machine.specs.declared.answer.Ended.{Ended}
 use Rattle.machine.specs.declared.answer.Step.{Step}
@@ -10,9 +10,9 @@ use Rattle.machine.specs.declared.instruction.Instruction.{Instruction}
 use Rattle.machine.specs.declared.memory.Memory.{Memory}
 use Rattle.machine.specs.declared.running.Halted.{Halted}
 use Rattle.machine.specs.Operations.{How}
-use Rattle.machine.specs.Steps.{State, Next, go, stop, wait, break, step}
-use Rattle.machine.specs.Runs.{Ran, run, Kept, up_to, begun, Call, end_as, place_as, over_as, kept_at, ran, called, call_from, call, Said, says, Turn, on, off, closed, turned, turn_from, turn}
-use Rattle.machine.specs.Views.{tops, state_of, how_of, next_of, over_of, turn_of}
+use Rattle.machine.specs.Steps.{State, Next, go, step}
+use Rattle.machine.specs.Runs.{run, Kept, up_to, begun, Call, end_as, place_as, over_as, kept_at, call_from, call, Said, says, on, off, closed, turned, turn_from, turn}
+use Rattle.machine.specs.Views.{state_of, how_of, next_of, over_of, turn_of}
 use Rattle.machine.proofs.Falls.{Falls, step_falls}
 use Rattle.machine.proofs.Looping.{Stopped}
 use Rattle.machine.proofs.Resuming.{run_counted}

@@ -1,13 +1,13 @@
 -- The run is its steps, however many more are allowed.
-use Rattle.std.proofs.Common.{◌≡◌, ℕ, zero, suc, ◌+◌, ◌-◌, ◌*◌, ◌<◌, ◌≤◌, List, [], ◌∷◌, length, sym, refl, ap, ◌∙◌, subst, not-suc-le-zero, arith}
+use Rattle.std.proofs.Common.{◌≡◌, ℕ, zero, suc, ◌+◌, ◌*◌, ◌<◌, ◌≤◌, List, length, sym, refl, ap, ◌∙◌, subst, not-suc-le-zero, arith}
 use Rattle.machine.specs.declared.instruction.Instruction.{Instruction}
 use Rattle.machine.specs.Endings.{End}
-use Rattle.machine.specs.Operations.{goes, ends, waits, breaks}
+use Rattle.machine.specs.Operations.{ends, waits, breaks}
 use Rattle.machine.specs.Steps.{State, Next, go, stop, wait, break, step}
 use Rattle.machine.specs.Runs.{Ran, ran, later, onward, Runs, steps, run}
 use Rattle.machine.specs.Runs.Runs.{by_step, by_stop, by_wait, by_break}
 use Rattle.machine.specs.Laws.{Ends}
-use Rattle.machine.proofs.Falls.{rest, rest_least, rest_most, Falls, step_falls}
+use Rattle.machine.proofs.Falls.{rest, rest_most, Falls, step_falls}
 
 module _ (code : List Instruction) where
   falls_of : (u v : State) → step code u ≡ go v → rest code v < rest code u

@@ -1,12 +1,11 @@
 -- Every step of any code comes nearer to the end of the run.
-use Rattle.std.proofs.Common.{◌≡◌, ℕ, zero, suc, ◌+◌, ◌-◌, ◌*◌, ◌<◌, ◌≤◌, Bool, true, false, cond, ◌||◌, eqb, ltb, List, [], ◌∷◌, length, get_or, ℤ, pos, negsuc, Some, None, Option, sym, refl, ap, ◌∙◌, subst, add-mul, mul-le-mul_left, one-mul, arith, ltb-true}
+use Rattle.std.proofs.Common.{◌≡◌, ℕ, zero, suc, ◌+◌, ◌-◌, ◌*◌, ◌<◌, ◌≤◌, Bool, true, false, cond, ◌||◌, ltb, List, [], ◌∷◌, length, ℤ, pos, negsuc, Some, None, Option, sym, refl, ap, ◌∙◌, arith, ltb-true}
 use Rattle.std.specs.List.{slice_get}
 use Rattle.std.proofs.lemmas.Bool.Decides.{nat_tests}
 use Rattle.boards.specs.Meaning.{Meaning}
 use Rattle.ints.specs.Arith.{is_zero, equal_z}
 use Rattle.machine.specs.declared.instruction.Instruction.{Instruction}
-use Rattle.machine.specs.Endings.{End}
-use Rattle.machine.specs.Codes.{Plain, Query, Operation, plain, ask, jump, jump_if_zero, tick, unknown, decode, operation_of, is_tick, may_land}
+use Rattle.machine.specs.Codes.{Operation, plain, ask, jump, jump_if_zero, tick, unknown, decode, operation_of, is_tick}
 use Rattle.machine.specs.Operations.{Store, How, goes, ends, waits, breaks, exec, answer}
 use Rattle.machine.specs.Steps.{State, at, Next, go, stop, wait, break, go_to, moved, jumped, branched, ticked, performed, fetched, step}
 

@@ -1,6 +1,5 @@
 -- Where jumps lead.
-use Rattle.std.proofs.Common.{◌≡◌, ℕ, suc, ◌+◌, ◌-◌, ◌^◌, ◌<◌, ◌≤◌, Bool, true, false, cond, ◌||◌, eqb, ltb, List, [], ◌∷◌, length, get_or, ℤ, pos, negsuc, sym, refl, ap, ◌∙◌, arith, w32, SFits, of_z}
-use Rattle.std.specs.List.{slice_get}
+use Rattle.std.proofs.Common.{◌≡◌, ℕ, ◌+◌, ◌-◌, ◌^◌, ◌<◌, ◌≤◌, true, false, eqb, ltb, List, ◌∷◌, length, get_or, ℤ, pos, negsuc, sym, refl, ap, ◌∙◌, arith, w32, SFits, of_z}
 use Rattle.std.proofs.lemmas.Option.{slice_get-get_or, slice_get_past}
 use Rattle.std.proofs.lemmas.Bool.Decides.{nat_tests}
 use Rattle.boards.specs.Meaning.{Meaning}
@@ -10,8 +9,8 @@ use Rattle.machine.specs.declared.flow.Flow.TheVariants.{Goes}
 use Rattle.machine.specs.declared.instruction.Instruction.{Instruction}
 use Rattle.machine.specs.declared.memory.Memory.{Memory}
 use Rattle.machine.specs.declared.moves.Moved.{Moved}
-use Rattle.machine.specs.Codes.{is_tick, may_land}
-use Rattle.machine.specs.Steps.{State, Next, jumped, branched}
+use Rattle.machine.specs.Codes.{may_land}
+use Rattle.machine.specs.Steps.{jumped, branched}
 use Rattle.machine.specs.Views.{tops, state_of, next_of}
 use Rattle.machine.proofs.Tops.{tops-one}
 

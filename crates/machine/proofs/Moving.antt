@@ -1,5 +1,5 @@
 -- From what the cursor's functions say to what an operation does.
-use Rattle.std.proofs.Common.{◌≡◌, ℕ, zero, suc, ◌+◌, ◌-◌, ◌<◌, ◌≤◌, true, false, ltb, List, [], ◌∷◌, length, get_or, set, ℤ, pos, negsuc, nat_abs, sym, refl, ap, ◌∙◌, arith, w32, lt-ltb}
+use Rattle.std.proofs.Common.{◌≡◌, ℕ, zero, suc, ◌+◌, ◌-◌, ◌<◌, ◌≤◌, true, false, ltb, List, ◌∷◌, get_or, set, ℤ, pos, negsuc, nat_abs, sym, refl, ap, ◌∙◌, arith, w32, lt-ltb}
 use lib.Signed.{lt_z, le_z}
 use Rattle.std.proofs.lemmas.Bool.Decides.{nat_tests}
 use Rattle.boards.specs.Meaning.{Meaning, zone_answer, report_answer, reported}
@@ -8,11 +8,11 @@ use Rattle.ints.specs.declared.operator.Unary.{Unary}
 use Rattle.ints.specs.declared.operator.Operator.{Operator}
 use Rattle.machine.specs.declared.cursor.Cursor.{Cursor}
 use Rattle.machine.specs.declared.flow.Flow.{Flow}
-use Rattle.machine.specs.declared.flow.Flow.TheVariants.{Goes, Waits, Ends, Breaks}
+use Rattle.machine.specs.declared.flow.Flow.TheVariants.{Goes}
 use Rattle.machine.specs.declared.memory.Memory.{Memory}
 use Rattle.machine.specs.declared.moves.Moved.{Moved}
 use Rattle.machine.specs.Endings.{returned}
-use Rattle.machine.specs.Operations.{Store, Did, done, ended, fault, pushed, stored, stored_top, discarded, computed, combined, turned, given, Reply, replied, zoned, zone_of, filed, report_of}
+use Rattle.machine.specs.Operations.{Did, done, ended, fault, pushed, stored, stored_top, discarded, computed, combined, turned, given, replied, zoned, zone_of, filed, report_of}
 use Rattle.machine.specs.Views.{tops, store_of, how_of, position_after, Moves}
 use Rattle.machine.proofs.Tops.{length-tops, tops-one, tops_two}
 

@@ -1,5 +1,5 @@
 -- A run that waits goes on, with more ticks, as if it had had them from the start; and how many instructions a run counts.
-use Rattle.std.proofs.Common.{◌≡◌, ℕ, zero, suc, ◌+◌, ◌-◌, ◌*◌, ◌<◌, ◌≤◌, min, Bool, true, false, cond, ltb, List, [], ◌∷◌, length, ℤ, pos, negsuc, Some, None, Option, sym, refl, ap, ◌∙◌, subst, add_assoc, add-mul, suc-add, one-mul, zero-add, arith, ltb-false, ltb-true}
+use Rattle.std.proofs.Common.{◌≡◌, ℕ, zero, suc, ◌+◌, ◌-◌, ◌*◌, ◌≤◌, Bool, true, false, cond, ltb, List, [], ◌∷◌, length, ℤ, pos, negsuc, Some, None, Option, sym, refl, ap, ◌∙◌, subst, add_assoc, add-mul, suc-add, one-mul, zero-add, arith, ltb-false, ltb-true}
 use Rattle.std.specs.List.{slice_get}
 use Rattle.boards.specs.Meaning.{Meaning}
 use Rattle.ints.specs.Arith.{is_zero}
@@ -8,10 +8,10 @@ use Rattle.machine.specs.Endings.{End, waiting, broken}
 use Rattle.machine.specs.Codes.{Operation, plain, ask, jump, jump_if_zero, tick, unknown, operation_of, may_land, place_at}
 use Rattle.machine.specs.Operations.{Store, How, goes, ends, waits, breaks, exec, answer}
 use Rattle.machine.specs.Steps.{State, at, Next, go, stop, wait, break, go_to, moved, jumped, branched, ticked, performed, fetched, step}
-use Rattle.machine.specs.Runs.{Ran, ran, later, onward, Runs, steps, run, Over, Kept, fresh, up_to, begun, Call, over_as, end_as, place_as, kept_at, called, again, call_from, call}
+use Rattle.machine.specs.Runs.{Ran, ran, later, Runs, run, Over, Kept, fresh, up_to, begun, Call, over_as, end_as, place_as, called, call_from, call}
 use Rattle.machine.specs.Runs.Runs.{by_step, by_stop, by_wait, by_break}
 use Rattle.machine.specs.Laws.{Waits, Resumes, Bounded, Stays}
-use Rattle.machine.proofs.Falls.{rest, rest_least, rest_most, Falls, step_falls}
+use Rattle.machine.proofs.Falls.{rest, rest_most, Falls, step_falls}
 use Rattle.machine.proofs.Equations.{run_go, run_runs}
 use Rattle.machine.proofs.Working.{WorksAs, exec_works, answer_works}
 

@@ -1,6 +1,5 @@
 -- From what an instruction's function says to the step.
-use Rattle.std.proofs.Common.{◌≡◌, ℕ, ◌+◌, ◌<◌, ◌≤◌, List, length, get_or, ℤ, pos, negsuc, Some, None, sym, refl, ap, ◌∙◌, w32, SFits, of_z}
-use Rattle.std.specs.List.{slice_get}
+use Rattle.std.proofs.Common.{◌≡◌, ℕ, ◌<◌, ◌≤◌, List, length, get_or, ℤ, pos, negsuc, refl, ap, w32, SFits, of_z}
 use Rattle.std.proofs.lemmas.List.{get_or_past}
 use Rattle.std.proofs.lemmas.Option.{slice_get-get_or, slice_get_past}
 use Rattle.boards.specs.Meaning.{Meaning}
@@ -12,7 +11,7 @@ use Rattle.machine.specs.declared.memory.Memory.{Memory}
 use Rattle.machine.specs.declared.moves.Moved.{Moved}
 use Rattle.machine.specs.Codes.{Plain, Query, Operation, plain, ask, unknown, operations, decode, operation_of}
 use Rattle.machine.specs.Operations.{Store, exec, answer}
-use Rattle.machine.specs.Steps.{State, at, Next, break, moved, performed, step}
+use Rattle.machine.specs.Steps.{State, at, break, moved, performed, step}
 use Rattle.machine.specs.Views.{store_of, state_of, how_of, next_of, position_after, Moves, Asks}
 
 same_next : (f : Flow) (u : State) (m : Store) (p l : ℕ) (b : Meaning) → p ≡ position_after f u.position → l ≡ u.left

@@ -1,5 +1,5 @@
 -- What writing and cutting do to the values on the stack.
-use Rattle.std.proofs.Common.{◌≡◌, ℕ, zero, suc, ◌+◌, ◌-◌, ◌<◌, ◌≤◌, ◌≢◌, List, [], ◌∷◌, length, get_or, set, ℤ, pos, refl, ap, add-one, arith, get_or-set_other, get_or-set_same}
+use Rattle.std.proofs.Common.{◌≡◌, ℕ, zero, suc, ◌+◌, ◌-◌, ◌<◌, ◌≤◌, ◌≢◌, List, ◌∷◌, length, get_or, set, ℤ, pos, refl, ap, add-one, arith, get_or-set_other, get_or-set_same}
 use Rattle.machine.specs.Views.{tops}
 
 pub length-tops : (xs : List ℤ) (n : ℕ) → length (tops xs n) ≡ n

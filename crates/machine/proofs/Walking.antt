@@ -1,15 +1,14 @@
 -- Walks of the machine, for whoever shows what a piece of code does: steps one by one, and how the run comes out.
-use Rattle.std.proofs.Common.{◌≡◌, ℕ, zero, suc, ◌+◌, ◌<◌, Bool, true, false, ◌||◌, ltb, List, [], ◌∷◌, ◌++◌, length, ℤ, pos, Some, None, sym, refl, ap, ◌∙◌, add-zero, add-suc, suc-add, lt-ltb}
+use Rattle.std.proofs.Common.{◌≡◌, ℕ, suc, ◌+◌, ◌<◌, Bool, true, false, ◌||◌, ltb, List, [], ◌∷◌, ◌++◌, length, ℤ, pos, Some, refl, ap, ◌∙◌, add-zero, add-suc, suc-add, lt-ltb}
 use Rattle.std.specs.List.{slice_get}
 use Rattle.boards.specs.Meaning.{Meaning}
 use Rattle.ints.specs.Arith.{is_zero}
 use Rattle.machine.specs.declared.instruction.Instruction.{Instruction}
 use Rattle.machine.specs.Endings.{End}
 use Rattle.machine.specs.Codes.{Plain, push, Query, plain, ask, jump, jump_if_zero, tick, operation_of, is_tick, may_land}
-use Rattle.machine.specs.Operations.{Store, How, goes, ends, waits, breaks, Did, done, ended, exec, Reply, replied, answer}
-use Rattle.machine.specs.Steps.{State, at, Next, go, stop, wait, break, step}
-use Rattle.machine.specs.Runs.{Ran, later, Runs, run}
-use Rattle.machine.specs.Runs.Runs.{by_step}
+use Rattle.machine.specs.Operations.{Store, How, ends, waits, breaks, done, ended, exec, replied, answer}
+use Rattle.machine.specs.Steps.{State, at, go, stop, wait, break, step}
+use Rattle.machine.specs.Runs.{Ran, run}
 use Rattle.machine.proofs.Equations.{run_go, run_stop, run_wait, run_break}
 
 -- from state to state

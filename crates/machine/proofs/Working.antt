@@ -7,10 +7,9 @@ use Rattle.ints.specs.Arith.{is_zero, compute}
 use Rattle.ints.specs.declared.operator.Operator.{Operator}
 use Rattle.ints.specs.declared.operator.Unary.{Unary}
 use Rattle.machine.specs.declared.instruction.Instruction.{Instruction}
-use Rattle.machine.specs.Endings.{End}
 use Rattle.machine.specs.Codes.{Plain, push, load, store, discard, binary, unary, give, Query, zone, columns, rows, report, Operation, plain, ask, jump, jump_if_zero, tick, unknown, operation_of, may_land}
 use Rattle.machine.specs.Operations.{Store, How, goes, ends, waits, breaks, Did, done, fault, pushed, loaded, stored_top, stored, discarded, computed, combined, turned, given, exec, zoned, zone_of, filed, report_of, answer}
-use Rattle.machine.specs.Steps.{State, at, Next, go, stop, wait, break, go_to, moved, jumped, branched, ticked, performed, fetched, step}
+use Rattle.machine.specs.Steps.{State, Next, go, stop, wait, break, go_to, moved, jumped, branched, ticked, performed, fetched, step}
 
 -- by how an operation comes out: none waits, none ends a run as waiting, and what does not go on changes nothing
 abbrev pub WorksAs : How → Store → Store → Type 0

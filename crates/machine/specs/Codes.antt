@@ -1,5 +1,5 @@
 -- The instructions by their codes.
-use Rattle.std.specs.Prelude.{ℕ, Bool, true, false, ◌||◌, List, [], ◌∷◌, ℤ, pos, negsuc, Some, None, Option, nat_lt, slice_index_or}
+use Rattle.std.specs.Prelude.{ℕ, Bool, false, ◌||◌, List, [], ◌∷◌, ℤ, pos, negsuc, Some, None, Option, nat_lt, slice_index_or}
 use Rattle.std.specs.List.{slice_get}
 use Rattle.ints.specs.Arith.{equal_z}
 use Rattle.ints.specs.declared.operator.Operator.{Operator}

@@ -1,10 +1,10 @@
 -- A run: steps until one ends it, or waits, or is broken.
-use Rattle.std.specs.Prelude.{◌≡◌, ℕ, zero, suc, ◌+◌, ◌-◌, ◌*◌, min, cond, List, [], length, replicate, ℤ, pos, Some, None, Option}
+use Rattle.std.specs.Prelude.{◌≡◌, ℕ, zero, suc, ◌+◌, ◌-◌, ◌*◌, min, List, [], length, replicate, ℤ, pos, Some, None, Option}
 use Rattle.boards.specs.Meaning.{Meaning}
 use Rattle.machine.specs.declared.instruction.Instruction.{Instruction}
-use Rattle.machine.specs.Endings.{End, waiting, broken, is_waiting}
+use Rattle.machine.specs.Endings.{End, waiting, broken}
 use Rattle.machine.specs.Codes.{place_at}
-use Rattle.machine.specs.Operations.{Store, How, goes, ends, waits, breaks}
+use Rattle.machine.specs.Operations.{How, goes, ends, waits, breaks}
 use Rattle.machine.specs.Steps.{State, at, Next, go, stop, wait, break, step}
 
 -- how a run came out, its last state, and how many instructions were carried out

@@ -1,12 +1,12 @@
 -- One step: the instruction at the position, with the position and the ticks that are left.
-use Rattle.std.specs.Prelude.{ℕ, zero, suc, ◌+◌, ◌-◌, Bool, true, false, cond, List, [], ◌∷◌, ℤ, pos, negsuc, Some, None, Option}
+use Rattle.std.specs.Prelude.{ℕ, zero, suc, ◌+◌, cond, List, [], ◌∷◌, ℤ, pos, negsuc, Some, None, Option}
 use Rattle.std.specs.List.{slice_get}
 use Rattle.boards.specs.Meaning.{Meaning}
 use Rattle.ints.specs.Arith.{is_zero}
 use Rattle.machine.specs.declared.instruction.Instruction.{Instruction}
 use Rattle.machine.specs.Endings.{End}
 use Rattle.machine.specs.Codes.{Operation, plain, ask, jump, jump_if_zero, tick, unknown, operation_of, may_land}
-use Rattle.machine.specs.Operations.{Store, How, goes, ends, waits, breaks, Did, exec, Reply, answer}
+use Rattle.machine.specs.Operations.{Store, How, goes, ends, waits, breaks, exec, answer}
 
 -- a run under way
 pub record State : Type 0 where

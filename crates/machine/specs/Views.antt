@@ -13,7 +13,7 @@ use Rattle.machine.specs.declared.flow.Flow.{Flow}
 use Rattle.machine.specs.declared.flow.Flow.TheVariants.{Goes, Waits, Ends, Breaks}
 use Rattle.machine.specs.declared.machine.Machine.{Machine}
 use Rattle.machine.specs.declared.moves.Moved.{Moved}
-use Rattle.machine.specs.Endings.{End, end_of}
+use Rattle.machine.specs.Endings.{end_of}
 use Rattle.machine.specs.Operations.{Store, How, goes, ends, waits, breaks, Did, Reply}
 use Rattle.machine.specs.Steps.{State, at, Next, go, stop, wait, break}
 use Rattle.machine.specs.Runs.{Kept, Over, up_to, end_as, place_as, over_as, Said, Turn, on, off}

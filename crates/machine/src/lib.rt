@@ -1,4 +1,6 @@
 // The stack machine: any code list, run with a number of ticks, and resumed with more.
+#![tactic(auto)]
+
 mod answer;
 mod asking;
 mod calls;

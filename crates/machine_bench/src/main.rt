@@ -1,4 +1,6 @@
 // Runs a loop of load, store, add, multiply, compare and jumps, for counting its cost.
+#![tactic(auto)]
+
 mod closed;
 
 use boards::Board;

@@ -1,5 +1,7 @@
 // Hand-written code lists, for every instruction and every ending: each line that is printed has the case's name,
 // the ending's number, its value and place, the ticks spent and the instructions counted.
+#![tactic(auto)]
+
 mod small;
 
 use machine::{Answer, Instruction, Machine, Step};

@@ -1,5 +1,5 @@
 -- Each step builds: trees for the new stack make trees for the old one, which begin with the token taken.
-use Rattle.std.proofs.Common.{◌≡◌, ℕ, zero, suc, pred, ◌<◌, ◌≤◌, Bool, true, false, cond, not, eqb, List, [], ◌∷◌, get_or, sym, refl, ap, ◌∙◌, arith}
+use Rattle.std.proofs.Common.{◌≡◌, ℕ, zero, suc, pred, Bool, true, false, cond, not, eqb, List, [], ◌∷◌, get_or, sym, refl, ap, ◌∙◌, arith}
 use mathlib.Core.Option.{Option, none, some}
 use Rattle.std.proofs.lemmas.Slice.Eq.{bytes_eq-Decides}
 use Rattle.std.proofs.lemmas.Bool.Decides.{nat_tests}
@@ -10,14 +10,14 @@ use Rattle.meaning.specs.declared.operator.Scalar.{Scalar}
 use Rattle.meaning.specs.declared.operator.Scalar.TheVariants.{Bool as bool, Char as char, Int as int}
 use Rattle.meaning.specs.declared.operator.Operator.{Operator}
 use Rattle.meaning.specs.declared.operator.Operator.TheVariants.{Add, Subtract, Multiply, Divide, Remainder, Less, LessEqual, Greater, GreaterEqual, Equal, NotEqual, And, Or}
-use Rattle.meaning.specs.Trees.{Ident, Constant, Expr, constant, variable, call, bracket, unary, Args, no_args, args, Exprs, last, more, Modifier, Stmt, evaluate, for_to, return, return_bare, Stmts, nil, cons, Return as Answer, void, gives, Parameter, nothing, takes, Item, global, Script}
+use Rattle.meaning.specs.Trees.{Ident, Constant, Expr, variable, no_args, args, Modifier, Stmt, evaluate, for_to, return, nil, cons, Return as Answer, void, gives, nothing, global}
 use Rattle.meaning.specs.Written.{sign, ident, literal, type_kind, modifier_kind, return_kind, main_name, expr_lexemes, args_lexemes, exprs_lexemes, stmt_lexemes, stmts_lexemes, items_lexemes}
 use Rattle.meaning.specs.Depths.{expr_depths, args_depths, exprs_depths, stmt_depths, stmts_depths, items_depths}
 use Rattle.meaning.specs.Grammar.{ends_open}
-use Rattle.meaning.proofs.Tokens.{Word, Void, Extern, Static, If, Else, While, Do, For, To, Break, Continue, Return, Assign, OpenParen, CloseParen, OpenBrace, CloseBrace, Comma, Semicolon, Tok, name, value, type, operator, bang, modifier, word, stray, word_kind, tok_of, next, Spelled}
-use Rattle.meaning.proofs.Stack.{word_code, same_word, at, is_word, as_name, as_constant, as_type, as_result, int_place, as_int, loose, Assigning, plainly, modifying, neither, assigning, Tail, done, link, More, end, comma, Otherwise, absent, other, Sym, token, a_name, a_constant, a_result, an_int, parameter, operand, called, tail, expr, exprs, further, arguments, statement, named, returned, statements, orelse, script, declared, integer, mainly, Value, Values, Step, stop, on, onto, tails_to, gather, terminal, call_rule, called_step, minus_rule, bracket_rule, operand_rule, tail_rule, tail_step, tails_step, expr_rule, listed, exprs_rule, further_rule, branched, evaluation, named_rule, returned_rule, word_rule, statement_rule, statements_rule, orelse_rule, prepend, global_row, parameter_rule, mainly_rule, integer_rule, global_rule, typed_rule, declared_rule, extern_row, extern_rule, static_rule, item_rule, script_rule, rule, empty, absorbs, choose, step}
-use Rattle.meaning.proofs.Parsed.{lex_v, dep_v, before, before_d, FineV, EndsV, NoCall, NoElse, EndsE, Stands, Parsed, Builds}
-use Rattle.meaning.proofs.Spine.{Level, gathered}
+use Rattle.meaning.proofs.Tokens.{Word, Void, Extern, Static, If, Else, While, Do, For, To, Break, Continue, Return, Assign, OpenParen, CloseParen, OpenBrace, CloseBrace, Comma, Semicolon, Tok, name, value, type, operator, bang, modifier, word, stray, word_kind, tok_of, Spelled}
+use Rattle.meaning.proofs.Stack.{word_code, same_word, at, is_word, as_name, as_constant, as_type, as_result, int_place, as_int, loose, Assigning, plainly, modifying, neither, assigning, done, More, end, comma, Otherwise, absent, other, Sym, token, a_name, a_constant, a_result, an_int, parameter, operand, called, tail, expr, exprs, further, arguments, statement, named, returned, statements, orelse, script, declared, integer, mainly, Value, Values, Step, stop, on, onto, tails_to, gather, terminal, call_rule, called_step, minus_rule, bracket_rule, operand_rule, tail_rule, tail_step, tails_step, expr_rule, listed, exprs_rule, further_rule, branched, evaluation, named_rule, returned_rule, word_rule, statement_rule, statements_rule, orelse_rule, prepend, global_row, parameter_rule, mainly_rule, integer_rule, global_rule, typed_rule, declared_rule, extern_rule, static_rule, item_rule, script_rule, rule, empty, absorbs, choose, step}
+use Rattle.meaning.proofs.Parsed.{lex_v, dep_v, before, before_d, FineV, EndsV, NoElse, Parsed, Builds}
+use Rattle.meaning.proofs.Spine.{gathered}
 
 pub never : {X : Type 0} → false ≡ true → X
 never e = let z : ◌≡◌ {A = ℕ} 0 1 = cc in absurd (omega arith)

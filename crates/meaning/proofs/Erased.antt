@@ -1,7 +1,7 @@
 -- The names of a run by their types: what the check knows of them.
 use Rattle.std.proofs.Common.{◌≡◌, ℕ, Bool, true, false, cond, List, [], ◌∷◌, sym, refl, ap, ◌∙◌, arith}
 use Rattle.meaning.specs.declared.operator.Scalar.{Scalar}
-use Rattle.meaning.specs.Scopes.{Callee, callee_name, same_name, Names, Entry, level, variable, stop, function, Meant, absent, a_variable, a_function, lookup, leave, assigned}
+use Rattle.meaning.specs.Scopes.{callee_name, same_name, Names, Entry, level, variable, stop, function, Meant, absent, a_variable, a_function, lookup, leave, assigned}
 use Rattle.meaning.specs.Values.{Value, value_type}
 use Rattle.meaning.specs.Check.{Scope}
 

@@ -1,7 +1,7 @@
 -- What a run does to ticks and board, whatever the script: a tick that is no longer left is spent, a run that waits has
 -- none left, and reports are only added. One relation between the states before and after, and one lemma for each
 -- combinator of the run.
-use Rattle.std.proofs.Common.{◌≡◌, ℕ, zero, suc, ◌+◌, ◌≤◌, Bool, true, false, cond, List, [], ◌∷◌, ◌++◌, ℤ, pos, negsuc, Some, None, Option, sym, refl, ap, ◌∙◌, append_assoc, append-nil, arith}
+use Rattle.std.proofs.Common.{◌≡◌, ℕ, zero, suc, ◌+◌, ◌≤◌, Bool, true, false, cond, List, [], ◌∷◌, ◌++◌, ℤ, Some, None, Option, sym, refl, ap, ◌∙◌, append_assoc, append-nil, arith}
 use lib.Signed.{lt_z}
 use Rattle.refusal.specs.Told.{Told, accepted, refused}
 use Rattle.boards.specs.Meaning.{Meaning, has_room, with_reports, reported, report_answer, zone_answer}

@@ -1,5 +1,5 @@
 -- The machine's verdict on lexemes: it stops at the first token that it does not take, and where something too deep begins.
-use Rattle.std.proofs.Common.{ℕ, suc, Bool, true, false, cond, ltb, List, [], ◌∷◌}
+use Rattle.std.proofs.Common.{ℕ, suc, cond, ltb, List, [], ◌∷◌}
 use Rattle.lexer.specs.Lexeme.{Lexeme}
 use Rattle.meaning.proofs.Tokens.{tok_of}
 use Rattle.meaning.proofs.Stack.{Sym, Step, stop, on, step, closed}

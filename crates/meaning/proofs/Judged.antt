@@ -1,22 +1,19 @@
 -- The machine's verdict is the grammar's: each of its outcomes says of the lexemes what the definitions say, and each of
 -- these has that outcome.
-use Rattle.std.proofs.Common.{◌≡◌, ℕ, zero, suc, ◌+◌, ◌<◌, ◌≤◌, max, Bool, true, false, cond, eqb, ltb, ◌⊎◌, List, [], ◌∷◌, ◌++◌, length, get_or, take, drop, sym, refl, ap, ◌∙◌, subst, inl, inr, append_assoc, arith, length-append}
+use Rattle.std.proofs.Common.{◌≡◌, ℕ, zero, suc, ◌+◌, ◌<◌, ◌≤◌, Bool, true, false, cond, ltb, List, [], ◌∷◌, ◌++◌, length, take, sym, refl, ap, subst, arith}
 use mathlib.Core.Option.{Option, none, some}
-use native.Mathlib.Decide.{dec_le, dec_lt}
 use Rattle.std.proofs.lemmas.Bool.Decides.{nat_tests}
 use Rattle.lexer.specs.Lexeme.{Lexeme}
-use Rattle.meaning.specs.Trees.{Script, variable, nothing, no_args, nil}
-use Rattle.meaning.specs.Written.{script_lexemes, expr_lexemes, args_lexemes, stmts_lexemes}
-use Rattle.meaning.specs.Depths.{script_depths, greatest, expr_depths, args_depths, stmts_depths}
-use Rattle.meaning.specs.Grammar.{Grammatical, depth_at, ReadsAs, GoesOn, ShallowBefore, Accepted, Unexpected, EndsEarly, TooDeep}
-use Rattle.meaning.proofs.Tokens.{Tok, stray, tok_of, spelled}
+use Rattle.meaning.specs.Trees.{variable}
+use Rattle.meaning.specs.Written.{expr_lexemes}
+use Rattle.meaning.specs.Depths.{expr_depths}
+use Rattle.meaning.proofs.Tokens.{stray, tok_of, spelled}
 use Rattle.meaning.proofs.Stack.{Sym, token, a_name, a_constant, a_result, an_int, parameter, operand, called, tail, expr, exprs, further, arguments, statement, named, returned, statements, orelse, script, declared, integer, mainly, done, end, absent, Value, Values, Step, stop, on, empty, absorbs, optional, step, closed}
 use Rattle.meaning.proofs.Parsed.{before, before_d, lex_v, dep_v, FineV, EndsV, Parsed, After, Builds}
 use Rattle.meaning.proofs.Builds.{never, builds}
 use Rattle.meaning.proofs.Moves.{moves}
-use Rattle.meaning.proofs.Once.{parsed_script, script_parsed, reads_parsed}
 use Rattle.meaning.proofs.Judge.{Outcome, accepted, refused, decide, judge}
-use Rattle.meaning.proofs.Least.{Sane, Keeps, keeps, sane_more, finished, least_of, least_depths}
+use Rattle.meaning.proofs.Least.{Sane, Keeps, keeps}
 
 -- Trees that stand there decide the verdict: it is that of their depths.
 

@@ -1,6 +1,6 @@
 -- Every stack that the machine comes to can be finished, by a smallest tree for each symbol; and the depth of what begins
 -- rises by no more than one at a time.
-use Rattle.std.proofs.Common.{◌≡◌, ℕ, zero, suc, pred, ◌<◌, ◌≤◌, Bool, true, false, cond, not, eqb, List, [], ◌∷◌, pos, sym, refl, ap, ◌∙◌, arith}
+use Rattle.std.proofs.Common.{◌≡◌, ℕ, zero, suc, pred, ◌≤◌, Bool, true, false, cond, not, eqb, List, [], ◌∷◌, pos, refl, arith}
 use mathlib.Core.Option.{Option, none, some}
 use Rattle.std.proofs.lemmas.Bool.Decides.{nat_tests}
 use Rattle.std.specs.Str.{bytes_eq}
@@ -10,12 +10,12 @@ use Rattle.meaning.specs.declared.operator.Scalar.{Scalar}
 use Rattle.meaning.specs.declared.operator.Scalar.TheVariants.{Bool as bool, Char as char, Int as int}
 use Rattle.meaning.specs.declared.operator.Operator.{Operator}
 use Rattle.meaning.specs.declared.operator.Operator.TheVariants.{Add, Subtract, Multiply, Divide, Remainder, Less, LessEqual, Greater, GreaterEqual, Equal, NotEqual, And, Or}
-use Rattle.meaning.specs.Trees.{Ident, Constant, number, Expr, constant, variable, call, no_args, args, Exprs, last, Stmt, break, assign, return_bare, evaluate, return, Stmts, nil, cons, void, takes, global, Script}
-use Rattle.meaning.specs.Written.{sign, ident, literal, main_name, expr_lexemes, args_lexemes, exprs_lexemes, stmt_lexemes, stmts_lexemes, items_lexemes, static_lexemes}
-use Rattle.meaning.specs.Depths.{expr_depths, args_depths, exprs_depths, stmt_depths, stmts_depths, items_depths, static_depths}
-use Rattle.meaning.specs.Grammar.{looseness, ends_open}
-use Rattle.meaning.proofs.Tokens.{Word, Void, Extern, Static, If, Else, While, Do, For, To, Break, Continue, Return, Assign, OpenParen, CloseParen, OpenBrace, CloseBrace, Comma, Semicolon, Tok, name, value, type, operator, bang, modifier, word, stray, word_kind, tok_of, next}
-use Rattle.meaning.proofs.Stack.{at, is_word, as_name, as_constant, as_type, as_result, as_int, loose, Assigning, plainly, modifying, neither, assigning, Tail, done, More, end, Otherwise, other, Sym, token, a_name, a_constant, a_result, an_int, parameter, operand, called, tail, expr, exprs, further, arguments, statement, named, returned, statements, orelse, script, declared, integer, mainly, Value, Values, Step, stop, on, onto, tails_to, gather, terminal, call_rule, called_step, minus_rule, bracket_rule, operand_rule, tail_rule, tail_step, tails_step, expr_rule, listed, exprs_rule, further_rule, evaluation, named_rule, returned_rule, word_rule, statement_rule, statements_rule, orelse_rule, global_row, prepend, parameter_rule, mainly_rule, integer_rule, global_rule, typed_rule, declared_rule, extern_row, extern_rule, static_rule, item_rule, script_rule, rule, empty, absorbs, choose, step}
+use Rattle.meaning.specs.Trees.{Ident, Constant, number, constant, variable, call, no_args, args, last, break, assign, return_bare, evaluate, return, nil, cons, void, takes, global, Script}
+use Rattle.meaning.specs.Written.{sign, ident, literal, main_name, expr_lexemes, args_lexemes, exprs_lexemes, stmt_lexemes, stmts_lexemes, items_lexemes}
+use Rattle.meaning.specs.Depths.{expr_depths, args_depths, exprs_depths, stmt_depths, stmts_depths, items_depths}
+use Rattle.meaning.specs.Grammar.{ends_open}
+use Rattle.meaning.proofs.Tokens.{Word, Void, Extern, Static, If, Else, While, Do, For, To, Break, Continue, Return, Assign, OpenParen, CloseParen, OpenBrace, CloseBrace, Comma, Semicolon, Tok, name, value, type, operator, bang, modifier, word, stray, word_kind, next}
+use Rattle.meaning.proofs.Stack.{at, is_word, as_name, as_constant, as_type, as_result, as_int, loose, Assigning, plainly, modifying, neither, assigning, done, end, other, Sym, token, a_name, a_constant, a_result, an_int, parameter, operand, called, tail, expr, exprs, further, arguments, statement, named, returned, statements, orelse, script, declared, integer, mainly, Value, Values, Step, stop, on, onto, tails_to, gather, terminal, call_rule, called_step, minus_rule, bracket_rule, operand_rule, tail_rule, tail_step, tails_step, expr_rule, listed, exprs_rule, further_rule, evaluation, named_rule, returned_rule, word_rule, statement_rule, statements_rule, orelse_rule, global_row, prepend, parameter_rule, mainly_rule, integer_rule, typed_rule, declared_rule, static_rule, item_rule, script_rule, rule, empty, absorbs, choose, step}
 use Rattle.meaning.proofs.Parsed.{lex_v, dep_v, before, before_d, FineV, EndsV, Parsed}
 use Rattle.meaning.proofs.Builds.{never}
 

@@ -1,6 +1,6 @@
 -- Each tree moves: where the trees of a stack stand, the machine takes the first token, and the trees of the new stack, from
 -- which these are made, stand after it.
-use Rattle.std.proofs.Common.{◌≡◌, ℕ, zero, suc, pred, ◌+◌, ◌<◌, ◌≤◌, Bool, true, false, cond, not, eqb, List, [], ◌∷◌, sym, refl, ap, ◌∙◌, subst, arith}
+use Rattle.std.proofs.Common.{◌≡◌, ℕ, zero, suc, pred, ◌+◌, Bool, true, false, cond, not, eqb, List, [], ◌∷◌, sym, refl, ap, ◌∙◌, subst, arith}
 use mathlib.Core.Option.{Option, none, some}
 use Rattle.std.proofs.lemmas.Slice.Eq.{bytes_eq-Decides}
 use Rattle.std.proofs.lemmas.Bool.Decides.{nat_tests}
@@ -11,15 +11,15 @@ use Rattle.meaning.specs.declared.operator.Scalar.{Scalar}
 use Rattle.meaning.specs.declared.operator.Scalar.TheVariants.{Bool as bool, Char as char, Int as int}
 use Rattle.meaning.specs.declared.operator.Operator.{Operator}
 use Rattle.meaning.specs.declared.operator.Operator.TheVariants.{Subtract}
-use Rattle.meaning.specs.Trees.{Ident, Constant, Unary, negate, invert, Expr, constant, variable, call, bracket, unary, binary, Args, no_args, args, Exprs, last, more, Modifier, Stmt, block, define, assign, modify, evaluate, if_then, if_else, while, do_while, for_to, break, continue, return, return_bare, Stmts, nil, cons, Return as Answer, void, gives, Parameter, nothing, takes, Item, extern, global, Script}
-use Rattle.meaning.specs.Written.{sign, ident, literal, type_kind, modifier_kind, binary_kind, main_name, expr_lexemes, args_lexemes, exprs_lexemes, stmt_lexemes, stmts_lexemes, static_lexemes, items_lexemes, head_lexemes}
+use Rattle.meaning.specs.Trees.{Ident, Constant, negate, invert, Expr, constant, variable, call, bracket, unary, binary, Args, no_args, args, Exprs, last, more, Stmt, block, define, assign, modify, evaluate, if_then, if_else, while, do_while, for_to, break, continue, return, return_bare, Stmts, nil, cons, Return as Answer, void, gives, Parameter, nothing, takes, Item, extern, global, Script}
+use Rattle.meaning.specs.Written.{sign, ident, literal, type_kind, modifier_kind, binary_kind, main_name, expr_lexemes, args_lexemes, exprs_lexemes, stmt_lexemes, stmts_lexemes, static_lexemes, items_lexemes}
 use Rattle.meaning.specs.Depths.{expr_depths, args_depths, exprs_depths, stmt_depths, stmts_depths, static_depths, items_depths}
-use Rattle.meaning.specs.Grammar.{looseness, Grouped, GroupedExprs, Proper, Propers, ends_open}
+use Rattle.meaning.specs.Grammar.{looseness, Grouped, Proper, Propers, ends_open}
 use Rattle.meaning.proofs.Tokens.{Word, Void, Extern, Static, If, Else, While, Do, For, To, Break, Continue, Return, Assign, OpenParen, CloseParen, OpenBrace, CloseBrace, Comma, Semicolon, Tok, name, value, type, operator, bang, modifier, word, stray, word_kind, tok_of, next, tok_word, tok_type, tok_operator, tok_modifier, tok_literal}
-use Rattle.meaning.proofs.Stack.{word_code, same_word, at, is_word, loose, Assigning, plainly, modifying, neither, assigning, Tail, done, link, More, end, comma, Otherwise, absent, other, Sym, token, a_name, a_constant, a_result, an_int, parameter, operand, called, tail, expr, exprs, further, arguments, statement, named, returned, statements, orelse, script, declared, integer, mainly, Value, Values, Step, stop, on, onto, tails_to, gather, terminal, operand_rule, expr_rule, listed, statement_rule, exprs_rule, global_row, prepend, typed_rule, empty, absorbs, choose, step, closed, optional}
-use Rattle.meaning.proofs.Parsed.{tail_lexemes, tail_depths, FineTail, EndsE, EndsTail, EndsEs, EndsArgs, EndsParameter, NoCall, NoElse, Begins, FineV, EndsV, lex_v, dep_v, before, before_d, whole_lexemes, whole_depths, Stands, Parsed, After, Blank, Moves}
+use Rattle.meaning.proofs.Stack.{word_code, same_word, at, is_word, Tail, done, link, end, comma, absent, other, Sym, token, a_name, a_constant, a_result, an_int, parameter, operand, called, tail, expr, exprs, further, arguments, statement, named, returned, statements, orelse, script, declared, integer, mainly, Value, Values, Step, stop, on, onto, tails_to, gather, terminal, operand_rule, expr_rule, listed, statement_rule, exprs_rule, global_row, typed_rule, empty, absorbs, step, closed}
+use Rattle.meaning.proofs.Parsed.{tail_lexemes, tail_depths, EndsEs, EndsArgs, EndsParameter, NoCall, NoElse, Begins, FineV, EndsV, lex_v, dep_v, before, before_d, whole_lexemes, whole_depths, Stands, Parsed, After, Moves}
 use Rattle.meaning.proofs.Spine.{looseness_positive, gather-nulls, nulls, parsed_nulls, spread}
-use Rattle.meaning.proofs.Builds.{never, same_word_lem, named_of}
+use Rattle.meaning.proofs.Builds.{never, named_of}
 
 -- what is to be shown of every stack
 abbrev AllMoves : List Sym → Type 0

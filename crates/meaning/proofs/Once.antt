@@ -1,6 +1,6 @@
 -- A list of lexemes is written by the trees of a stack in at most one way; so it reads as at most one script.
-use Rattle.std.proofs.Common.{◌≡◌, ℕ, Bool, true, false, List, [], ◌∷◌, sym, refl, ap, ◌∙◌}
-use mathlib.Core.Option.{Option, none, some}
+use Rattle.std.proofs.Common.{◌≡◌, ℕ, List, [], ◌∷◌, sym, refl, ap, ◌∙◌}
+use mathlib.Core.Option.{some}
 use Rattle.lexer.specs.Lexeme.{Lexeme}
 use Rattle.meaning.specs.Trees.{Script}
 use Rattle.meaning.specs.Written.{script_lexemes}
@@ -8,7 +8,7 @@ use Rattle.meaning.specs.Depths.{script_depths}
 use Rattle.meaning.specs.Grammar.{Grammatical, ReadsAs}
 use Rattle.meaning.specs.Unique.{Unique}
 use Rattle.meaning.proofs.Tokens.{tok_of}
-use Rattle.meaning.proofs.Stack.{Sym, script, Value, Values, Step, stop, on, empty, step}
+use Rattle.meaning.proofs.Stack.{Sym, script, Values, Step, stop, on, step}
 use Rattle.meaning.proofs.Parsed.{Parsed, After, Blank}
 use Rattle.meaning.proofs.Moves.{moves}
 

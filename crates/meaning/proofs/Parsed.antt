@@ -1,13 +1,13 @@
 -- What a stack stands for: the lexemes, and the depths of what begins at each, that its trees are written as.
-use Rattle.std.proofs.Common.{◌≡◌, ℕ, zero, suc, pred, ◌<◌, ◌≤◌, Bool, true, false, cond, not, eqb, List, [], ◌∷◌, refl}
-use mathlib.Core.Option.{Option, none, some}
+use Rattle.std.proofs.Common.{◌≡◌, ℕ, suc, pred, ◌<◌, Bool, true, false, not, eqb, List, [], ◌∷◌}
+use mathlib.Core.Option.{Option, some}
 use Rattle.lexer.specs.Lexeme.{Lexeme}
 use Rattle.lexer.specs.declared.kind.Kind.TheVariants as K
-use Rattle.meaning.specs.Trees.{Expr, constant, variable, call, bracket, unary, binary, Args, no_args, args, Exprs, last, more, Stmt, Stmts, nil, cons, Parameter, nothing, takes, Item, extern, global, Script}
+use Rattle.meaning.specs.Trees.{Expr, constant, variable, call, bracket, unary, binary, Args, no_args, args, Exprs, last, more, Stmt, Parameter, nothing, takes, Item, extern, global, Script}
 use Rattle.meaning.specs.Written.{sign, ident, literal, main_name, return_kind, binary_kind, expr_lexemes, exprs_lexemes, args_lexemes, stmt_lexemes, stmts_lexemes, parameter_lexemes, static_lexemes, items_lexemes, head_lexemes}
 use Rattle.meaning.specs.Depths.{expr_depths, exprs_depths, args_depths, stmt_depths, stmts_depths, parameter_depths, static_depths, items_depths}
 use Rattle.meaning.specs.Grammar.{looseness, Grouped, GroupedArgs, GroupedExprs, ends_open, Proper, Propers}
-use Rattle.meaning.proofs.Tokens.{Word, OpenParen, CloseParen, CloseBrace, Comma, Else, Tok, word_kind, tok_of, next, Spelled}
+use Rattle.meaning.proofs.Tokens.{OpenParen, CloseParen, CloseBrace, Comma, Else, Tok, word_kind, tok_of, next, Spelled}
 use Rattle.meaning.proofs.Stack.{is_word, loose, Tail, done, link, More, end, comma, Otherwise, absent, other, Sym, token, a_name, a_constant, a_result, an_int, parameter, operand, called, tail, expr, exprs, further, arguments, statement, named, returned, statements, orelse, script, declared, integer, mainly, Value, Values, Step, stop, on, empty, step, closed}
 
 -- How trees are written.

@@ -1,10 +1,10 @@
 -- With more ticks, whatever does not wait comes to the same, with the further ticks still left.
-use Rattle.std.proofs.Common.{◌≡◌, ℕ, zero, suc, ◌+◌, ◌≤◌, Bool, true, false, cond, List, [], ◌∷◌, Some, None, Option, sym, refl, ap, ◌∙◌, arith}
+use Rattle.std.proofs.Common.{◌≡◌, ℕ, zero, suc, ◌+◌, ◌≤◌, Bool, true, false, cond, List, [], ◌∷◌, Some, None, Option, sym, refl, arith}
 use lib.Signed.{lt_z}
 use Rattle.refusal.specs.Told.{Told, accepted, refused}
-use Rattle.boards.specs.Meaning.{Meaning, zone_answer, report_answer}
+use Rattle.boards.specs.Meaning.{zone_answer, report_answer}
 use Rattle.meaning.specs.declared.operator.Operator.{Operator}
-use Rattle.meaning.specs.Trees.{Expr, constant, variable, call, bracket, unary, binary, Args, no_args, args, Exprs, last, more, Stmt, block, define, assign, modify, evaluate, if_then, if_else, while, do_while, for_to, break, continue, return, return_bare, Stmts, nil, cons, Script}
+use Rattle.meaning.specs.Trees.{Expr, constant, variable, call, bracket, unary, binary, Args, no_args, args, Exprs, last, more, Stmt, block, define, assign, modify, evaluate, if_then, if_else, while, do_while, for_to, break, continue, return, return_bare, Stmts, nil, cons}
 use Rattle.meaning.specs.Scopes.{Callee, zone, columns, rows, report, main, Meant, absent, a_variable, a_function}
 use Rattle.meaning.specs.Values.{Value, of_bool, of_char, of_int, Result, gives, zero_divisor, mistyped, Decided, decided, open_still}
 use Rattle.meaning.specs.Laws.{MoreTicksChangeNothing}

@@ -2,9 +2,9 @@
 use Rattle.std.proofs.Common.{◌≡◌, ℕ, true, List, [], ◌∷◌, pos, negsuc, codes, refl, arith}
 use mathlib.Core.Option.{Option, none, some}
 use Rattle.boards.specs.Meaning.{Meaning}
-use Rattle.meaning.specs.declared.operator.Scalar.TheVariants.{Bool as bool, Char as char, Int as int}
+use Rattle.meaning.specs.declared.operator.Scalar.TheVariants.{Char as char, Int as int}
 use Rattle.meaning.specs.declared.operator.Operator.TheVariants.{Add, Divide, Less}
-use Rattle.meaning.specs.Trees.{Ident, Expr, constant, number, character, truth, variable, binary, plus, Stmt, block, define, modify, if_then, while, for_to, continue, return, Stmts, nil, cons, Item, extern, global, Script}
+use Rattle.meaning.specs.Trees.{Ident, Expr, constant, number, character, truth, variable, binary, plus, block, define, modify, if_then, while, for_to, continue, return, Stmts, nil, cons, Item, extern, global, Script}
 use Rattle.std.specs.Int.{int_wrap}
 use Rattle.lexer.specs.Lexeme.{Lexeme}
 use Rattle.lexer.specs.Reading.{reading}
@@ -15,7 +15,7 @@ use Rattle.meaning.specs.Scopes.{lookup, defined_here, same_name, cells, leave, 
 use Rattle.meaning.specs.Check.{check_script, check_items, check_item, check_stmt, type_of, then, needs, there, needs_type, defined, room, as_variable}
 use Rattle.meaning.specs.Values.{apply, arithmetic, division, relation, short_circuit}
 use Rattle.meaning.specs.Run.{returned, waiting, divided, run_script, start, declare_items, run, eval, then_eval, result, read_variable, operate, given, then_flow, choose, as_int, leaving, outside, in_level, store, defining, spend, again, loop, looping, after_body, counting, below, adding, while_round, for_round, finished}
-use Rattle.meaning.specs.Sources.{Reads, Means, Refuses, Unfinished}
+use Rattle.meaning.specs.Sources.{Reads, Refuses, Unfinished}
 use Rattle.meaning.specs.Known.{ComesTo, KnownResults}
 
 abbrev name : List ℕ → ℕ → Ident

@@ -1,17 +1,17 @@
 -- An expression as an operand with the further operands of each level, and back.
-use Rattle.std.proofs.Common.{◌≡◌, ℕ, zero, suc, pred, ◌<◌, ◌≤◌, Bool, true, false, cond, eqb, ◌⊎◌, List, [], ◌∷◌, sym, refl, ap, ◌∙◌, inl, inr, arith}
+use Rattle.std.proofs.Common.{◌≡◌, ℕ, zero, suc, ◌<◌, ◌≤◌, false, List, ◌∷◌, sym, refl, ap, ◌∙◌, arith}
 use native.Mathlib.Decide.{dec_le}
 use Rattle.std.proofs.lemmas.Bool.Decides.{nat_tests}
 use Rattle.lexer.specs.Lexeme.{Lexeme}
 use Rattle.meaning.specs.declared.operator.Operator.{Operator}
 use Rattle.meaning.specs.declared.operator.Operator.TheVariants.{Add, Subtract, Multiply, Divide, Remainder, Less, LessEqual, Greater, GreaterEqual, Equal, NotEqual, And, Or}
-use Rattle.meaning.specs.Trees.{Expr, constant, variable, call, bracket, unary, binary, Args, no_args, args, Exprs, last, more}
+use Rattle.meaning.specs.Trees.{Expr, constant, variable, call, bracket, unary, binary}
 use Rattle.meaning.specs.Written.{sign, binary_kind, expr_lexemes}
 use Rattle.meaning.specs.Depths.{expr_depths}
 use Rattle.meaning.specs.Grammar.{looseness, Grouped}
-use Rattle.meaning.proofs.Tokens.{Tok, OpenParen, name, value, type, operator, bang, modifier, word, stray, tok_of, next, tok_operator}
-use Rattle.meaning.proofs.Stack.{is_word, loose, Tail, done, link, Sym, operand, tail, Value, Values, tails_to, attach, gather}
-use Rattle.meaning.proofs.Parsed.{tail_lexemes, tail_depths, FineTail, ends_name, NoCall, EndsE, EndsTail, Stands, Parsed}
+use Rattle.meaning.proofs.Tokens.{Tok, OpenParen, name, value, type, operator, bang, modifier, word, stray, next, tok_operator}
+use Rattle.meaning.proofs.Stack.{is_word, loose, Tail, done, link, Sym, operand, tail, Values, tails_to, attach, gather}
+use Rattle.meaning.proofs.Parsed.{tail_lexemes, tail_depths, FineTail, NoCall, EndsE, EndsTail, Parsed}
 
 -- Attaching operands.
 

@@ -1,6 +1,6 @@
 -- The verdict on a script's lexemes is what the grammar's definitions say, both ways.
-use Rattle.std.proofs.Common.{◌≡◌, ℕ, zero, suc, ◌+◌, ◌<◌, ◌≤◌, max, Bool, true, false, cond, ltb, ◌⊎◌, List, [], ◌∷◌, ◌++◌, length, get_or, take, drop, sym, refl, ap, ◌∙◌, subst, inl, inr, append_assoc, arith, length-append, take-append-drop}
-use native.Mathlib.Decide.{dec_le, dec_lt}
+use Rattle.std.proofs.Common.{◌≡◌, ℕ, zero, suc, ◌+◌, ◌<◌, ◌≤◌, Bool, true, false, cond, ltb, ◌⊎◌, List, [], ◌∷◌, ◌++◌, length, get_or, take, drop, sym, refl, ap, ◌∙◌, inl, inr, append_assoc, arith, length-append, take-append-drop}
+use native.Mathlib.Decide.{dec_le}
 use Rattle.std.proofs.lemmas.Bool.Decides.{nat_tests}
 use Rattle.lexer.specs.Lexeme.{Lexeme}
 use Rattle.meaning.specs.Trees.{Script}
@@ -11,8 +11,8 @@ use Rattle.meaning.proofs.Tokens.{tok_of, spelled}
 use Rattle.meaning.proofs.Stack.{Sym, script, Values, Step, stop, on, step}
 use Rattle.meaning.proofs.Parsed.{Parsed, Builds}
 use Rattle.meaning.proofs.Builds.{builds}
-use Rattle.meaning.proofs.Once.{parsed_script, script_parsed, reads_parsed}
-use Rattle.meaning.proofs.Judge.{Outcome, accepted, refused, decide, judge}
+use Rattle.meaning.proofs.Once.{script_parsed, reads_parsed}
+use Rattle.meaning.proofs.Judge.{Outcome, accepted, refused, judge}
 use Rattle.meaning.proofs.Least.{Sane, Keeps, keeps, sane_more, finished, least_values, least_of, least_depths}
 use Rattle.meaning.proofs.Judged.{Why, WhyAt, verdict_of, parsed_judge, Shallow, Reached, reached, all_read, local}
 

@@ -5,8 +5,8 @@
 use Rattle.std.specs.Prelude.{ℕ, ◌+◌, Bool, true, false, cond, ◌&&◌, List, [], ◌∷◌, Some, None, Option, nat_le}
 use Rattle.refusal.specs.Told.{Told, accepted, refused}
 use Rattle.meaning.specs.declared.operator.Scalar.{Scalar}
-use Rattle.meaning.specs.declared.operator.Scalar.TheVariants.{Bool as bool, Char as char, Int as int}
-use Rattle.meaning.specs.Trees.{Ident, Constant, Expr, constant, variable, call, bracket, unary, binary, Args, no_args, args, Exprs, last, more, Stmt, block, define, assign, modify, evaluate, if_then, if_else, while, do_while, for_to, break, continue, return, return_bare, Stmts, nil, cons, Return, void, gives, Item, extern, global, Script}
+use Rattle.meaning.specs.declared.operator.Scalar.TheVariants.{Bool as bool, Int as int}
+use Rattle.meaning.specs.Trees.{Ident, Expr, constant, variable, call, bracket, unary, binary, Args, no_args, args, Exprs, last, more, Stmt, block, define, assign, modify, evaluate, if_then, if_else, while, do_while, for_to, break, continue, return, return_bare, Stmts, nil, cons, Return, void, gives, Item, extern, global, Script}
 use Rattle.meaning.specs.Scopes.{Callee, zone, columns, rows, report, main, Names, Entry, level, stop, function, Meant, absent, a_variable, a_function, lookup, defined_here, cells}
 use Rattle.meaning.specs.Scopes
 use Rattle.meaning.specs.Types.{same_type, same_types, result_of, unary_result, constant_type, operator_of, signature, parameter_types, listed}

@@ -1,6 +1,6 @@
 -- Which token lists are scripts, and at which token a list that is none goes wrong. All of it is about scripts: a token
 -- is refused where no script goes on with it, or where something too deep begins.
-use Rattle.std.specs.Prelude.{◌≡◌, ℕ, suc, pred, ◌<◌, ◌≤◌, Bool, true, false, List, [], ◌∷◌, ◌++◌, length, take, slice_index}
+use Rattle.std.specs.Prelude.{◌≡◌, ℕ, suc, pred, ◌<◌, ◌≤◌, Bool, true, false, List, ◌++◌, length, take, slice_index}
 use Rattle.lexer.specs.Lexeme.{Lexeme}
 use Rattle.meaning.specs.declared.operator.Operator.{Operator}
 use Rattle.meaning.specs.declared.operator.Operator.TheVariants.{Add, Subtract, Multiply, Divide, Remainder, Less, LessEqual, Greater, GreaterEqual, Equal, NotEqual, And, Or}

@@ -1,8 +1,8 @@
 -- Scripts with known results, from their bytes through tokens, tree, check and run.
-use Rattle.std.specs.Prelude.{◌≡◌, ℕ, List, ℤ, pos, negsuc, codes}
+use Rattle.std.specs.Prelude.{◌≡◌, ℕ, List, pos, negsuc, codes}
 use Rattle.boards.specs.Meaning.{Meaning}
 use Rattle.meaning.specs.Trees.{Script}
-use Rattle.meaning.specs.Run.{Ending, returned, waiting, divided, Outcome, run_script}
+use Rattle.meaning.specs.Run.{Ending, returned, waiting, divided, run_script}
 use Rattle.meaning.specs.Sources.{Means, Refuses, Unfinished}
 
 -- the source means a script that comes to this on every board, with this number of ticks

@@ -4,7 +4,7 @@ use Rattle.refusal.specs.Told.{accepted}
 use Rattle.boards.specs.Meaning.{Meaning, with_reports}
 use Rattle.meaning.specs.Trees.{Script}
 use Rattle.meaning.specs.Check.{check_script}
-use Rattle.meaning.specs.Run.{Ending, waiting, stuck, run_script}
+use Rattle.meaning.specs.Run.{waiting, stuck, run_script}
 
 -- With more ticks, a run that ended otherwise than waiting ends the same way, spends the same, and leaves the same board.
 abbrev pub MoreTicksChangeNothing : Type 0

@@ -1,10 +1,10 @@
 -- The source run: what a script does on a board with a number of ticks.
-use Rattle.std.specs.Prelude.{ℕ, zero, suc, ◌+◌, Bool, true, false, cond, List, [], ◌∷◌, ℤ, pos, negsuc, ◌+ℤ◌, Some, None, Option, int_lt}
+use Rattle.std.specs.Prelude.{ℕ, zero, suc, true, false, cond, List, [], ◌∷◌, ℤ, pos, ◌+ℤ◌, Some, None, Option, int_lt}
 use Rattle.std.specs.Int.{int_wrap, w32}
 use Rattle.refusal.specs.Told.{Told, accepted, refused}
 use Rattle.boards.specs.Meaning.{Meaning, zone_answer, report_answer, reported}
 use Rattle.meaning.specs.declared.operator.Operator.{Operator}
-use Rattle.meaning.specs.Trees.{Ident, Constant, Expr, constant, variable, call, bracket, unary, binary, Args, no_args, args, Exprs, last, more, Stmt, block, define, assign, modify, evaluate, if_then, if_else, while, do_while, for_to, break, continue, return, return_bare, Stmts, nil, cons, Item, extern, global, Script}
+use Rattle.meaning.specs.Trees.{Expr, constant, variable, call, bracket, unary, binary, Args, no_args, args, Exprs, last, more, Stmt, block, define, assign, modify, evaluate, if_then, if_else, while, do_while, for_to, break, continue, return, return_bare, Stmts, nil, cons, Item, extern, global, Script}
 use Rattle.meaning.specs.Scopes.{Callee, zone, columns, rows, report, main, Names, Entry, level, stop, function, Meant, absent, a_variable, a_function, lookup, leave, assigned}
 use Rattle.meaning.specs.Scopes
 use Rattle.meaning.specs.Types.{operator_of, parameter_types, listed}

@@ -1,6 +1,6 @@
 -- What stands in the source of a tree: its lexemes in order, and the depth of what begins at each of them. Each function
 -- takes as its last argument what follows the tree.
-use Rattle.std.specs.Prelude.{ℕ, suc, max, Bool, true, false, List, [], ◌∷◌, ℤ, pos, codes}
+use Rattle.std.specs.Prelude.{ℕ, true, false, List, [], ◌∷◌, pos, codes}
 use Rattle.std.proofs.Math.Option.{Option, none, some}
 use Rattle.lexer.specs.Lexeme.{Lexeme}
 use Rattle.lexer.specs.declared.kind.Kind.{Kind}

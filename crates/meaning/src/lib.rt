@@ -1,5 +1,7 @@
 // What FenneC scripts are and mean. The definitions stand in specs/; here are the types and the table that code reads, and
 // the laws of the definitions.
+#![tactic(auto)]
+
 mod laws;
 mod operator;
 mod readings;

@@ -1,4 +1,6 @@
 // Tells whether the bytes on standard input are a script by their tokens and grammar, or why they are refused.
+#![tactic(auto)]
+
 use lexer::{Kind, TOKEN_LIMIT, Token};
 use refusal::Refusal;
 use std::io;

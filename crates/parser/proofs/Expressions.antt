@@ -1,5 +1,5 @@
 -- What the machine does with expressions, for each way that the code takes.
-use Rattle.std.proofs.Common.{◌≡◌, ℕ, zero, suc, ◌+◌, ◌-◌, ◌<◌, ◌≤◌, Bool, true, false, cond, not, eqb, ltb, ◌⊎◌, List, [], ◌∷◌, length, drop, Some, None, Ok, Err, Option, Result, sym, refl, ap, ◌∙◌, inl, inr, sub-one, arith}
+use Rattle.std.proofs.Common.{◌≡◌, ℕ, zero, suc, ◌+◌, ◌-◌, ◌<◌, ◌≤◌, Bool, true, false, cond, not, eqb, ltb, ◌⊎◌, List, ◌∷◌, length, drop, Some, None, Ok, Err, Option, Result, sym, refl, ap, ◌∙◌, inl, inr, sub-one, arith}
 use Rattle.std.proofs.lemmas.Bool.Decides.{nat_tests}
 use Rattle.lexer.specs.Reading.{lexemes}
 use Rattle.lexer.specs.declared.kind.Kind.{Kind}
@@ -10,7 +10,7 @@ use Rattle.meaning.specs.declared.operator.Operator.TheVariants.{Add, Subtract, 
 use Rattle.meaning.specs.Trees.{Ident, Constant, variable, args, no_args}
 use Rattle.meaning.specs.Grammar.{looseness}
 use Rattle.meaning.proofs.Tokens.{OpenParen, CloseParen, Comma, Tok, name, value, operator, bang, word}
-use Rattle.meaning.proofs.Stack.{at, is_word, loose, Sym, token, operand, called, tail, expr, exprs, further, arguments, done, end, stop, on, operand_rule, expr_rule, exprs_rule, gather, listed, tails_to, step}
+use Rattle.meaning.proofs.Stack.{is_word, loose, Sym, token, operand, called, tail, expr, exprs, further, arguments, done, end, stop, operand_rule, expr_rule, exprs_rule, gather, listed, tails_to, step}
 use Rattle.meaning.proofs.Builds.{never}
 use Rattle.meaning.proofs.Judge.{Outcome, refused, decide, judge}
 use Rattle.lookahead.specs.declared.class.Start.{Start}

@@ -1,5 +1,5 @@
 -- The token at a place: what code sees of it, and what the machine does.
-use Rattle.std.proofs.Common.{◌≡◌, ℕ, zero, suc, ◌+◌, ◌<◌, ◌≤◌, Bool, true, false, cond, ◌||◌, List, [], ◌∷◌, length, get_or, drop, ℤ, pos, negsuc, Some, None, Option, sym, refl, ap, ◌∙◌, add-one, drop_of_length-le, drop-cons}
+use Rattle.std.proofs.Common.{◌≡◌, ℕ, zero, suc, ◌+◌, ◌<◌, true, false, cond, ◌||◌, List, [], ◌∷◌, length, drop, ℤ, pos, negsuc, Some, None, Option, refl, ap, ◌∙◌, add-one, drop-cons}
 use mathlib.Core.Option.{some}
 use Rattle.lexer.specs.Lexeme.{Lexeme}
 use Rattle.lexer.specs.Reading.{name_bytes, lexeme, lexemes}
@@ -13,7 +13,7 @@ use Rattle.meaning.specs.Trees.{Ident, Constant, number, character, truth, plus,
 use Rattle.meaning.proofs.Tokens.{Void, Extern, Static, If, Else, While, Do, For, To, Break, Continue, Return, Assign, OpenParen, CloseParen, OpenBrace, CloseBrace, Comma, Semicolon, Tok, name, value, type, operator, bang, modifier, word, stray, bare, sorted, tok_of, next}
 use Rattle.meaning.proofs.Stack.{Sym, Value, Values, Step, stop, on, onto, empty, absorbs, step, closed}
 use Rattle.meaning.proofs.Judge.{Outcome, refused, decide, judge}
-use Rattle.lookahead.specs.Seen.{code, is_valued, is_zero, kind_of, first_kind, seen}
+use Rattle.lookahead.specs.Seen.{is_valued, is_zero, kind_of, first_kind, seen}
 
 -- The token of the machine that a kind stands for.
 

@@ -10,8 +10,8 @@ use Rattle.meaning.specs.declared.operator.Scalar.{Scalar}
 use Rattle.meaning.specs.declared.operator.Scalar.TheVariants.{Bool as bool, Char as char, Int as int}
 use Rattle.meaning.specs.Trees.{Ident, Constant, nothing, global, Return as Answer, void, gives}
 use Rattle.meaning.specs.Written.{main_name}
-use Rattle.meaning.proofs.Tokens.{OpenParen, CloseParen, Semicolon, Assign, Static, Extern, Void, Tok, name, value, type, operator, bang, modifier, word, stray, next, tok_of}
-use Rattle.meaning.proofs.Stack.{at, is_word, as_name, as_type, as_result, as_constant, as_int, Sym, token, a_name, a_constant, a_result, parameter, script, declared, integer, mainly, terminal, integer_rule, declared_rule, global_row, prepend, step}
+use Rattle.meaning.proofs.Tokens.{OpenParen, CloseParen, Static, Extern, Tok, name, value, type, operator, bang, modifier, word, stray, next, tok_of}
+use Rattle.meaning.proofs.Stack.{is_word, as_name, as_type, as_result, as_constant, as_int, Sym, token, a_name, a_constant, a_result, parameter, script, declared, integer, mainly, terminal, integer_rule, declared_rule, global_row, prepend, step}
 use Rattle.meaning.proofs.Builds.{never}
 use Rattle.meaning.proofs.Judge.{Outcome, accepted, refused, decide, judge}
 use Rattle.lookahead.specs.Seen.{is_valued, is_zero, kind_of, seen, is_kind, is_scalar, is_result, is_constant, past_static, main_first, is_main, past_main}

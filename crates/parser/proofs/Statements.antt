@@ -1,12 +1,12 @@
 -- What the machine does with statements, for each way that the code takes.
-use Rattle.std.proofs.Common.{◌≡◌, ℕ, suc, ◌+◌, ◌<◌, ◌≤◌, Bool, true, false, cond, not, ltb, ◌⊎◌, List, [], ◌∷◌, length, Some, None, Ok, Err, Option, sym, refl, ap, ◌∙◌, inl, inr, arith}
+use Rattle.std.proofs.Common.{◌≡◌, ℕ, suc, ◌+◌, ◌<◌, ◌≤◌, Bool, true, false, cond, not, ltb, ◌⊎◌, List, ◌∷◌, length, Some, None, Ok, Err, Option, sym, refl, ap, ◌∙◌, inl, inr, arith}
 use Rattle.lexer.specs.declared.kind.Kind.{Kind}
 use Rattle.lexer.specs.declared.kind.Kind.TheVariants as Kinds
 use Rattle.lexer.specs.declared.kind.Token.{Token}
 use Rattle.meaning.specs.declared.operator.Scalar.{Scalar}
 use Rattle.meaning.specs.declared.operator.Scalar.TheVariants.{Bool as bool, Char as char, Int as int}
 use Rattle.meaning.specs.Trees.{Ident, Modifier, plus, minus, times, over, modulo, both, either, evaluate, return, cons, nil}
-use Rattle.meaning.proofs.Tokens.{OpenParen, CloseParen, OpenBrace, CloseBrace, Semicolon, If, Else, While, Do, For, Break, Continue, Return, Assign, Tok, name, type, modifier, word}
+use Rattle.meaning.proofs.Tokens.{OpenBrace, CloseBrace, Semicolon, If, Else, While, Do, For, Break, Continue, Return, Assign, Tok, name, type, modifier, word}
 use Rattle.meaning.proofs.Stack.{neither, assigning, Sym, token, called, expr, statement, named, returned, statements, orelse, absent, Step, stop, expr_rule, evaluation, statement_rule, gather, tails_to, step}
 use Rattle.meaning.proofs.Builds.{never}
 use Rattle.meaning.proofs.Judge.{Outcome, refused, decide}

@@ -1,4 +1,6 @@
 // The grammar: whether tokens are a script's, and the first that is wrong.
+#![tactic(auto)]
+
 mod cursor;
 mod depth;
 mod expression;

@@ -1,4 +1,6 @@
 // A table of scripts, each on a line of standard input: the verdict on each is printed on a line.
+#![tactic(auto)]
+
 mod tests;
 
 use lexer::{Kind, TOKEN_LIMIT, Token};

@@ -1,4 +1,6 @@
 // Why a call is refused, and where: one type for every layer.
+#![tactic(auto)]
+
 mod number;
 mod reason;
 

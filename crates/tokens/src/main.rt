@@ -1,4 +1,6 @@
 // Lists the tokens of the script on standard input, or tells why it is refused.
+#![tactic(auto)]
+
 use lexer::{Kind, TOKEN_LIMIT, Token};
 use std::io::Read;
 use std::{io, str};

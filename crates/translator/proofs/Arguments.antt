@@ -1,14 +1,13 @@
 -- The arguments of a call, one after the other.
-use Rattle.std.proofs.Common.{◌≡◌, ℕ, zero, suc, ◌+◌, ◌<◌, ◌≤◌, Bool, true, false, List, [], ◌∷◌, ◌++◌, length, drop, Some, None, Ok, Err, Option, Result, sym, refl, ap, ◌∙◌, subst, append_assoc, append-nil, arith, length-append}
-use Rattle.refusal.specs.Told.{Told, accepted, refused, number_of}
-use Rattle.refusal.specs.declared.reason.Refusal.{Refusal}
+use Rattle.std.proofs.Common.{◌≡◌, ℕ, ◌+◌, ◌<◌, ◌≤◌, true, false, List, [], ◌∷◌, ◌++◌, length, drop, Some, None, Ok, Option, sym, refl, ap, ◌∙◌, append_assoc, append-nil, arith, length-append}
+use Rattle.refusal.specs.Told.{Told, accepted, refused}
 use Rattle.stacks.specs.Held.{Held}
 use Rattle.lexer.specs.Lexeme.{Lexeme}
 use Rattle.lexer.specs.Reading.{lexemes}
 use Rattle.lexer.specs.declared.kind.Kind.{Kind}
 use Rattle.lexer.specs.declared.kind.Kind.TheVariants as K
 use Rattle.lexer.specs.declared.kind.Token.{Token}
-use Rattle.lookahead.specs.Seen.{code, seen, is_kind, start_of}
+use Rattle.lookahead.specs.Seen.{seen, is_kind, start_of}
 use Rattle.lookahead.specs.declared.class.Start.TheVariants as S
 use Rattle.meaning.specs.declared.operator.Scalar.{Scalar}
 use Rattle.meaning.specs.Trees.{Expr, Args, no_args, args, Exprs, last, more}

@@ -1,32 +1,29 @@
 -- Calls: the function, its arguments, and whether it takes them.
-use Rattle.std.proofs.Common.{◌≡◌, ℕ, ◌+◌, ◌<◌, ◌≤◌, Bool, true, false, List, [], ◌∷◌, ◌++◌, length, drop, pos, Some, None, Ok, Err, Option, Result, sym, refl, ap, ◌∙◌, subst, append_assoc, arith, length-append}
+use Rattle.std.proofs.Common.{◌≡◌, ℕ, ◌+◌, ◌<◌, ◌≤◌, Bool, true, false, List, [], ◌∷◌, ◌++◌, length, drop, Some, Ok, Err, Option, sym, refl, ap, ◌∙◌, append_assoc, arith, length-append}
 use Rattle.refusal.specs.Told.{Told, accepted, refused, number_of}
 use Rattle.refusal.specs.declared.reason.Refusal.{Refusal}
 use Rattle.stacks.specs.Held.{Held}
 use Rattle.std.specs.List.{slice_get}
-use Rattle.lexer.specs.Lexeme.{Lexeme}
 use Rattle.lexer.specs.Reading.{lexemes}
 use Rattle.lexer.specs.declared.kind.Kind.TheVariants as K
 use Rattle.lexer.specs.declared.kind.Token.{Token}
 use Rattle.meaning.specs.declared.operator.Scalar.{Scalar}
 use Rattle.meaning.specs.declared.operator.Scalar.TheVariants.{Bool as bool, Char as char, Int as int}
-use Rattle.meaning.specs.Trees.{Ident, Expr, call, Args, Return, void, gives}
+use Rattle.meaning.specs.Trees.{Ident, call, Args, void, gives}
 use Rattle.meaning.specs.Written.{sign, ident, expr_lexemes, args_lexemes}
-use Rattle.meaning.specs.Scopes.{Callee, Meant, a_function, lookup}
+use Rattle.meaning.specs.Scopes.{Callee, a_function, lookup}
 use Rattle.meaning.specs.Types.{signature, same_types}
 use Rattle.meaning.specs.Check.{Scope, then, needs, as_callee, called, value, type_of, arg_types}
 use Rattle.machine.specs.declared.instruction.Instruction.{Instruction}
-use Rattle.layout.proofs.Compiled.{ins, call_code, expr_end, expr_code, args_end, args_code}
+use Rattle.layout.proofs.Compiled.{call_code, expr_end, expr_code, args_end, args_code}
 use Rattle.layout.proofs.Ends.{args_after}
 use Rattle.translator.specs.declared.name.Callee as Listed
 use Rattle.translator.specs.declared.name.Callee.TheVariants as C
-use Rattle.translator.specs.declared.typed.Called.{Called}
 use Rattle.translator.specs.declared.typed.Given.{Given}
-use Rattle.translator.specs.declared.typed.Typed.{Typed}
 use Rattle.translator.specs.Translation.{code_limit}
 use Rattle.translator.specs.Code.{Placed, coded, Emits}
 use Rattle.translator.specs.Names.{callee_of, return_of, CalleeIs}
-use Rattle.translator.specs.Expressions.{ExprAt, ExprDone, ArgsAt, CallDone, given_of, takes_int, takes_given}
+use Rattle.translator.specs.Expressions.{ExprAt, ArgsAt, CallDone, given_of, takes_int, takes_given}
 use Rattle.translator.proofs.Lexemes.{inside, next_is}
 use Rattle.translator.proofs.Emitting.{after-length}
 use Rattle.translator.proofs.Joining.{place_is, placed_at}

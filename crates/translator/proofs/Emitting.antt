@@ -1,5 +1,5 @@
 -- Code after some more instructions.
-use Rattle.std.proofs.Common.{◌≡◌, ℕ, ◌+◌, ◌<◌, ◌≤◌, List, [], ◌∷◌, ◌++◌, length, ℤ, pos, sym, refl, ap, ◌∙◌, append_assoc, arith, length-append}
+use Rattle.std.proofs.Common.{◌≡◌, ℕ, ◌+◌, ◌≤◌, List, [], ◌∷◌, ◌++◌, length, pos, sym, ap, ◌∙◌, append_assoc, arith, length-append}
 use Rattle.stacks.specs.Held.{Held}
 use Rattle.machine.specs.declared.instruction.Instruction.{Instruction}
 use Rattle.layout.proofs.Compiled.{ins, plainly, past, expr_end, expr_code}

@@ -1,11 +1,11 @@
 -- An operator between two operands: its type, and its code after that of the left operand.
-use Rattle.std.proofs.Common.{◌≡◌, ℕ, zero, suc, ◌+◌, ◌<◌, ◌≤◌, Bool, true, false, List, [], ◌∷◌, ◌++◌, length, drop, ℤ, pos, IfOk, Some, None, Ok, Err, Option, Result, sym, refl, ap, ◌∙◌, subst, append_assoc, arith, length-append}
-use Rattle.refusal.specs.Told.{Told, accepted, refused, number_of}
+use Rattle.std.proofs.Common.{◌≡◌, ℕ, zero, suc, ◌+◌, ◌<◌, ◌≤◌, List, [], ◌∷◌, ◌++◌, length, drop, pos, IfOk, Some, Ok, Err, Option, Result, sym, refl, ap, ◌∙◌, subst, append_assoc, arith, length-append}
+use Rattle.refusal.specs.Told.{Told, accepted, refused}
 use Rattle.refusal.specs.declared.reason.Refusal.{Refusal}
 use Rattle.stacks.specs.Held.{Held}
 use Rattle.std.specs.List.{slice_get}
 use Rattle.lexer.specs.Lexeme.{Lexeme}
-use Rattle.lexer.specs.Reading.{lexeme, lexemes}
+use Rattle.lexer.specs.Reading.{lexemes}
 use Rattle.lexer.specs.declared.kind.Token.{Token}
 use Rattle.meaning.specs.declared.operator.Scalar.{Scalar}
 use Rattle.meaning.specs.declared.operator.Operator.{Operator}
@@ -15,7 +15,7 @@ use Rattle.meaning.specs.Trees.{Expr, binary}
 use Rattle.meaning.specs.Types.{result_of}
 use Rattle.meaning.specs.Check.{Scope, then, there, type_of}
 use Rattle.machine.specs.declared.instruction.Instruction.{Instruction}
-use Rattle.layout.proofs.Compiled.{ins, is_char, codes_of, Shape, strict, shape_of, plainly, past, expr_end, expr_code}
+use Rattle.layout.proofs.Compiled.{ins, is_char, codes_of, strict, shape_of, plainly, past, expr_end, expr_code}
 use Rattle.layout.proofs.Ends.{past_grows, expr_grows}
 use Rattle.translator.specs.declared.typed.Typed.{Typed}
 use Rattle.translator.specs.Translation.{code_limit}

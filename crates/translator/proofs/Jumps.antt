@@ -1,13 +1,12 @@
 -- Jumps that get their targets.
-use Rattle.std.proofs.Common.{◌≡◌, ℕ, zero, suc, ◌+◌, ◌-◌, ◌<◌, ◌≤◌, Bool, true, false, cond, List, [], ◌∷◌, ◌++◌, length, take, drop, set, ℤ, pos, Some, None, Option, sym, refl, ap, ◌∙◌, append_assoc, arith, length-append, take-append-drop, length-take, take_all, take-take}
+use Rattle.std.proofs.Common.{◌≡◌, ℕ, zero, suc, ◌-◌, ◌<◌, ◌≤◌, true, false, cond, List, [], ◌∷◌, ◌++◌, length, take, drop, set, ℤ, pos, Some, None, sym, refl, ap, ◌∙◌, arith, length-take, take_all, take-take}
 use lib.Seq.{drop-append-le, split_at}
 use Rattle.std.specs.List.{slice_get}
 use Rattle.std.proofs.lemmas.List.{drop_all}
 use Rattle.std.proofs.lemmas.Option.{slice_get-get_or}
-use Rattle.stacks.specs.Held.{Held, holding, cut, top, popped}
+use Rattle.stacks.specs.Held.{Held, holding, top, popped}
 use Rattle.machine.specs.declared.instruction.Instruction.{Instruction}
 use Rattle.translator.specs.declared.pending.Jump.{Jump}
-use Rattle.translator.specs.Translation.{code_limit}
 use Rattle.translator.specs.Code.{Placed, coded, aim, aimed, patched, Lands, LandsAll, LandsOn}
 
 -- replacing an instruction by one with another target

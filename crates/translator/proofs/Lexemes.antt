@@ -1,5 +1,5 @@
 -- The token at a place where a lexeme of a script stands.
-use Rattle.std.proofs.Common.{◌≡◌, ℕ, zero, suc, ◌+◌, ◌<◌, ◌≤◌, Bool, true, false, cond, ◌||◌, List, [], ◌∷◌, map, length, take, drop, ℤ, pos, negsuc, Some, None, Option, sym, refl, ap, ◌∙◌, arith}
+use Rattle.std.proofs.Common.{◌≡◌, ℕ, zero, suc, ◌+◌, ◌<◌, Bool, true, false, cond, ◌||◌, List, [], ◌∷◌, length, take, drop, Some, None, sym, refl, ap, ◌∙◌, arith}
 use native.Mathlib.Numerals.{unary_clauses}
 use Rattle.std.specs.List.{slice_get}
 use Rattle.lexer.specs.Lexeme.{Lexeme}
@@ -7,7 +7,7 @@ use Rattle.lexer.specs.Reading.{lexeme, lexemes}
 use Rattle.lexer.specs.declared.kind.Kind.{Kind}
 use Rattle.lexer.specs.declared.kind.Kind.TheVariants as K
 use Rattle.lexer.specs.declared.kind.Token.{Token}
-use Rattle.lookahead.specs.Seen.{is_valued, is_zero, kind_of, first_kind, seen}
+use Rattle.lookahead.specs.Seen.{is_valued, is_zero, seen}
 use Rattle.meaning.specs.Trees.{Ident, Constant, number, character, truth}
 use Rattle.meaning.specs.Written.{sign, ident, literal}
 

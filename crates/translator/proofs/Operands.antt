@@ -1,11 +1,11 @@
 -- Operands: which tree stands where code sees a token, and what becomes of it.
-use Rattle.std.proofs.Common.{◌≡◌, ℕ, zero, suc, ◌+◌, ◌<◌, ◌≤◌, Bool, true, false, cond, ◌⊎◌, List, [], ◌∷◌, ◌++◌, length, drop, ℤ, pos, Some, None, Ok, Err, Option, Result, sym, refl, ap, ◌∙◌, subst, inl, inr, append_assoc, arith, length-append}
+use Rattle.std.proofs.Common.{◌≡◌, ℕ, suc, ◌+◌, ◌<◌, ◌≤◌, true, false, cond, ◌⊎◌, List, [], ◌∷◌, ◌++◌, length, drop, pos, Some, None, Ok, Err, Option, Result, sym, refl, ap, ◌∙◌, inl, inr, append_assoc, arith, length-append}
 use Rattle.refusal.specs.Told.{Told, accepted, refused, number_of}
 use Rattle.refusal.specs.declared.reason.Refusal.{Refusal}
 use Rattle.stacks.specs.Held.{Held}
 use Rattle.std.specs.List.{slice_get}
 use Rattle.lexer.specs.Lexeme.{Lexeme}
-use Rattle.lexer.specs.Reading.{lexeme, lexemes}
+use Rattle.lexer.specs.Reading.{lexemes}
 use Rattle.lexer.specs.declared.kind.Kind.{Kind}
 use Rattle.lexer.specs.declared.kind.Kind.TheVariants as K
 use Rattle.lexer.specs.declared.kind.Token.{Token}
@@ -13,23 +13,22 @@ use Rattle.lookahead.specs.declared.class.Start.{Start}
 use Rattle.lookahead.specs.declared.class.Start.TheVariants as S
 use Rattle.lookahead.specs.Seen.{seen, is_kind, start_of}
 use Rattle.meaning.specs.declared.operator.Scalar.{Scalar}
-use Rattle.meaning.specs.declared.operator.Scalar.TheVariants.{Bool as bool, Char as char, Int as int}
+use Rattle.meaning.specs.declared.operator.Scalar.TheVariants.{Char as char, Int as int}
 use Rattle.meaning.specs.declared.operator.Operator.TheVariants.{Subtract}
 use Rattle.meaning.specs.Trees.{Ident, Constant, number, character, truth, Unary, negate, invert, Expr, constant, variable, call, bracket, unary, binary, Args}
-use Rattle.meaning.specs.Written.{sign, ident, literal, unary_kind, expr_lexemes, args_lexemes}
-use Rattle.meaning.specs.Grammar.{looseness, Grouped}
+use Rattle.meaning.specs.Written.{sign, ident, literal, unary_kind, expr_lexemes}
+use Rattle.meaning.specs.Grammar.{Grouped}
 use Rattle.meaning.specs.Scopes.{Names, level, stop, function, a_variable, lookup, cells, same_name}
 use Rattle.meaning.specs.Scopes
-use Rattle.meaning.specs.Types.{unary_result, constant_type}
+use Rattle.meaning.specs.Types.{unary_result}
 use Rattle.meaning.specs.Values.{constant_value}
 use Rattle.meaning.specs.Check.{Scope, then, there, as_variable, type_of}
 use Rattle.meaning.proofs.Tokens.{next, OpenParen}
-use Rattle.meaning.proofs.Stack.{is_word, loose}
-use Rattle.meaning.proofs.Parsed.{EndsE}
+use Rattle.meaning.proofs.Stack.{is_word}
 use Rattle.meaning.proofs.Spine.{looseness_positive, loose_positive}
 use Rattle.parser.proofs.Expect.{word_at}
 use Rattle.machine.specs.declared.instruction.Instruction.{Instruction}
-use Rattle.layout.proofs.Compiled.{ins, held, cell_of, is_char, low, codes_of, plainly, past, expr_end, expr_code, literal_code}
+use Rattle.layout.proofs.Compiled.{ins, held, cell_of, is_char, low, codes_of, past, expr_end, expr_code, literal_code}
 use Rattle.layout.proofs.Ends.{past_grows, expr_grows}
 use Rattle.translator.specs.declared.look.Literal.{Literal}
 use Rattle.translator.specs.declared.name.Variable.{Variable as Used}

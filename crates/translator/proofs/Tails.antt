@@ -1,9 +1,8 @@
 -- An expression after its leftmost operand: level by level, the further operands of each.
-use Rattle.std.proofs.Common.{◌≡◌, ℕ, zero, suc, pred, ◌+◌, ◌-◌, ◌<◌, ◌≤◌, Bool, true, false, eqb, ◌⊎◌, List, [], ◌∷◌, ◌++◌, length, drop, Some, None, Ok, Err, Option, Result, sym, refl, ap, ◌∙◌, subst, inl, inr, arith}
+use Rattle.std.proofs.Common.{◌≡◌, ℕ, suc, pred, ◌+◌, ◌<◌, ◌≤◌, Bool, true, false, eqb, List, ◌∷◌, ◌++◌, length, drop, Some, None, Ok, sym, refl, ap, ◌∙◌, subst, arith}
 use native.Mathlib.Decide.{dec_le}
 use Rattle.std.proofs.lemmas.Bool.Decides.{nat_tests}
-use Rattle.refusal.specs.Told.{Told, accepted, refused, number_of}
-use Rattle.refusal.specs.declared.reason.Refusal.{Refusal}
+use Rattle.refusal.specs.Told.{accepted, refused}
 use Rattle.stacks.specs.Held.{Held}
 use Rattle.lexer.specs.Lexeme.{Lexeme}
 use Rattle.lexer.specs.Reading.{lexemes}
@@ -23,7 +22,7 @@ use Rattle.meaning.proofs.Spine.{looseness_positive, loose_positive}
 use Rattle.parser.proofs.Look.{tok_at, sees}
 use Rattle.parser.proofs.Expressions.{loose-seen, loose_is}
 use Rattle.machine.specs.declared.instruction.Instruction.{Instruction}
-use Rattle.layout.proofs.Compiled.{Shape, strict, both, either, shape_of, codes_of, is_char, past, binary_end, expr_end, expr_code}
+use Rattle.layout.proofs.Compiled.{Shape, strict, both, either, shape_of, binary_end, expr_end, expr_code}
 use Rattle.layout.proofs.Ends.{past_grows, expr_grows}
 use Rattle.translator.specs.declared.typed.Typed.{Typed}
 use Rattle.translator.specs.Translation.{code_limit}

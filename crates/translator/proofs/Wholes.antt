@@ -1,7 +1,6 @@
 -- Whole expression statements: a call alone may give nothing, any other expression has a value.
-use Rattle.std.proofs.Common.{◌≡◌, ℕ, ◌+◌, ◌<◌, ◌≤◌, Bool, true, false, not, ◌&&◌, ◌⊎◌, List, [], ◌∷◌, ◌++◌, length, drop, is_some, Some, None, Ok, Err, Option, Result, sym, refl, ap, ◌∙◌, subst, inl, inr, ⊎_elim, arith}
-use Rattle.refusal.specs.Told.{Told, accepted, refused, number_of}
-use Rattle.refusal.specs.declared.reason.Refusal.{Refusal}
+use Rattle.std.proofs.Common.{◌≡◌, ℕ, ◌+◌, ◌≤◌, Bool, true, false, not, ◌&&◌, ◌⊎◌, List, ◌∷◌, length, is_some, Some, None, Ok, Option, sym, refl, ap, ◌∙◌, subst, inl, inr, ⊎_elim, arith}
+use Rattle.refusal.specs.Told.{Told, accepted, refused}
 use Rattle.stacks.specs.Held.{Held}
 use Rattle.std.specs.List.{slice_get}
 use Rattle.lexer.specs.Lexeme.{Lexeme}
@@ -20,12 +19,10 @@ use Rattle.meaning.specs.Scopes.{zone, columns, rows, report, main, Meant, absen
 use Rattle.meaning.specs.Types.{signature, same_types}
 use Rattle.meaning.specs.Check.{Scope, then, needs, as_callee, called, type_of, arg_types, check_whole}
 use Rattle.machine.specs.declared.instruction.Instruction.{Instruction}
-use Rattle.layout.proofs.Compiled.{expr_end, expr_code, gives_nothing, leaves_nothing}
+use Rattle.layout.proofs.Compiled.{expr_end, gives_nothing, leaves_nothing}
 use Rattle.translator.specs.declared.typed.Called.{Called}
 use Rattle.translator.specs.declared.typed.Typed.{Typed}
-use Rattle.translator.specs.declared.typed.Whole.{Whole}
 use Rattle.translator.specs.Translation.{code_limit}
-use Rattle.translator.specs.Code.{coded}
 use Rattle.translator.specs.Look.{call_seen}
 use Rattle.translator.specs.Names.{return_of}
 use Rattle.translator.specs.Expressions.{ExprAt, ExprDone, CallDone, TailsAt, WholeDone, first_of, after_first}

@@ -1,5 +1,5 @@
 -- The code that grows while a script is translated.
-use Rattle.std.specs.Prelude.{◌≡◌, ℕ, zero, suc, ◌+◌, ◌<◌, ◌≤◌, Bool, cond, List, [], ◌∷◌, ◌++◌, length, drop, ℤ, pos, Some, None, Option}
+use Rattle.std.specs.Prelude.{◌≡◌, ℕ, zero, suc, ◌<◌, cond, List, [], ◌∷◌, ◌++◌, length, drop, ℤ, pos, Some, None, Option}
 use Rattle.stacks.specs.Held.{Held, holding, cut}
 use Rattle.machine.specs.declared.instruction.Instruction.{Instruction}
 use Rattle.layout.proofs.Compiled.{ins}

@@ -1,6 +1,6 @@
 -- What the translation of an expression comes to.
-use Rattle.std.specs.Prelude.{◌≡◌, ℕ, ◌+◌, ◌<◌, ◌≤◌, Bool, true, false, not, List, [], ◌∷◌, ◌++◌, length, drop, Some, None, Ok, Err, Option, Result}
-use Rattle.refusal.specs.Told.{Told, accepted, refused, number_of}
+use Rattle.std.specs.Prelude.{◌≡◌, ℕ, ◌≤◌, Bool, true, false, not, List, [], ◌∷◌, ◌++◌, length, drop, Some, None, Ok, Err, Option, Result}
+use Rattle.refusal.specs.Told.{accepted, refused, number_of}
 use Rattle.refusal.specs.declared.reason.Refusal.{Refusal}
 use Rattle.stacks.specs.Held.{Held}
 use Rattle.lexer.specs.Lexeme.{Lexeme}

@@ -1,12 +1,11 @@
 -- What a token of a script says.
-use Rattle.std.specs.Prelude.{◌≡◌, ℕ, ◌+◌, ◌<◌, Bool, ◌&&◌, List, ◌∷◌, length, drop, pos, Some, None, Option}
+use Rattle.std.specs.Prelude.{◌≡◌, ℕ, ◌+◌, Bool, ◌&&◌, List, Some, None, Option}
 use Rattle.lexer.specs.declared.kind.Kind.{Kind}
 use Rattle.lexer.specs.declared.kind.Kind.TheVariants as K
 use Rattle.lexer.specs.declared.kind.Token.{Token}
 use Rattle.lookahead.specs.Seen.{seen, is_kind, looseness_of}
 use Rattle.meaning.specs.declared.operator.Scalar.{Scalar}
 use Rattle.meaning.specs.declared.operator.Operator.{Operator}
-use Rattle.meaning.specs.Grammar.{looseness}
 use Rattle.meaning.specs.Trees.{Constant, Modifier}
 use Rattle.meaning.specs.Types.{constant_type, operator_of}
 use Rattle.meaning.specs.Values.{constant_value}

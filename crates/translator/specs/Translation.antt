@@ -1,5 +1,5 @@
 -- What becomes of a source that is handed over with a token list and a code list.
-use Rattle.std.specs.Prelude.{◌≡◌, ℕ, ◌*◌, ◌<◌, ◌≤◌, Bool, true, false, cond, List, ◌++◌, length, drop, nat_lt}
+use Rattle.std.specs.Prelude.{◌≡◌, ℕ, ◌*◌, ◌<◌, ◌≤◌, cond, List, ◌++◌, length, drop, nat_lt}
 use Rattle.refusal.specs.Told.{Told, accepted, refused}
 use Rattle.lexer.specs.Reading.{reading, source_limit, token_limit, none, fault, written}
 use Rattle.lexer.specs.declared.kind.Token.{Token}

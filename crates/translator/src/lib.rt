@@ -1,4 +1,6 @@
 // From a source to code.
+#![tactic(auto)]
+
 mod callee;
 mod counts;
 mod define;

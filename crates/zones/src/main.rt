@@ -1,4 +1,6 @@
 // Measures a frame of 4 x 3 tiles that it reads from standard input, and parts of it.
+#![tactic(auto)]
+
 mod fault;
 mod filing;
 mod table;

@@ -1,5 +1,4 @@
 use Rattle.std.proofs.Common.{◌≡◌, ◌+◌, ◌-◌, ◌≤◌, min, length, get_or, drop, sym, ◌∙◌, arith, length-take}
-use Rattle.boards.specs.Table.{sum_of}
 use Rattle.boards.proofs.Tables.{sum_of-none, sum_of_more}
 use Rattle.boards.proofs.Lines.{run_at, run_all_lem}
 use Rattle.boards.proofs.tile.line_sum.Goals as goal

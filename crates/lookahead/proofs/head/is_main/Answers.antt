@@ -1,6 +1,5 @@
 use Rattle.std.proofs.Common.{sym, refl}
 use Rattle.std.proofs.lemmas.Slice.Eq.{slice_eq-Decides}
-use Rattle.meaning.specs.Written.{main_name}
 use Rattle.lookahead.proofs.Bytes.{main_is}
 use Rattle.lookahead.proofs.head.is_main.Goals as goal
 use Rattle.std.proofs.lemmas.Bool.Decides.{Decides-eqb}

@@ -4,7 +4,6 @@ use Rattle.std.proofs.lemmas.Result.{err_from_is_err_and}
 use Rattle.refusal.specs.Told.{refused}
 use Rattle.meaning.specs.Trees.{negate, invert}
 use Rattle.stacks.specs.Held.{seen}
-use Rattle.translator.specs.Names.{scope_of}
 use Rattle.translator.proofs.Arguments.{none_done, first_wrong, first_listed, next_wrong, next-listed, listed-done}
 use Rattle.translator.proofs.Calls.{call-name, call_place, call_args, callee_wrong, argument_wrong, misfit, call-done, call-fault, call_void, call_gives, takes_is}
 use Rattle.translator.proofs.Operands.{when_constant, when_prefix, when_bracket, when_call, when_variable, when_nothing, when_minus, when_bang, negate_keeps, invert_refuses, unary_fault, unary_misfit, prefix_place, negate_under, negate_done, invert_under, invert_done, bracket_inner, bracket_fault, bracket_done}

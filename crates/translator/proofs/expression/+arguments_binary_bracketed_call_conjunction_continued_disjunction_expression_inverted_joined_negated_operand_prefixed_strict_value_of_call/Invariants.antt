@@ -1,4 +1,4 @@
-use Rattle.std.proofs.Common.{ℕ, ◌+◌, ◌-◌, ◌*◌, ◌<◌, ◌≤◌, length}
+use Rattle.std.proofs.Common.{◌+◌, ◌-◌, ◌*◌, ◌<◌, ◌≤◌, length}
 use Rattle.stacks.specs.Held.{seen}
 use Rattle.translator.specs.Names.{scope_of}
 use Rattle.translator.proofs.Arguments.{Lists}

@@ -1,6 +1,5 @@
-use Rattle.std.proofs.Common.{not, sym, refl, ap, ◌∙◌, rules}
+use Rattle.std.proofs.Common.{not, sym, ap, ◌∙◌, rules}
 use Rattle.std.proofs.lemmas.Result.{err_from_is_err_and}
-use Rattle.stacks.specs.Held.{seen}
 use Rattle.translator.proofs.Wholes.{begun, begun-fault, call_alone, call_longer, operand_void, operand_tails, valued_fault, valued_fine}
 use Rattle.translator.proofs.expression.begun_by_call.Goals as goal
 

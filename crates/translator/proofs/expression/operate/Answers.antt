@@ -1,6 +1,6 @@
 use Rattle.std.proofs.Common.{ap, ◌∙◌}
 use Rattle.stacks.specs.Held.{seen}
-use Rattle.translator.specs.Code.{op_code, codes_by}
+use Rattle.translator.specs.Code.{codes_by}
 use Rattle.translator.proofs.Emitting.{emit_one, emit_two, by_codes}
 use Rattle.translator.proofs.expression.operate.Goals as goal
 

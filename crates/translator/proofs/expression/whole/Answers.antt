@@ -1,4 +1,4 @@
-use Rattle.std.proofs.Common.{sym, refl, ◌∙◌, rules}
+use Rattle.std.proofs.Common.{sym, rules}
 use Rattle.std.proofs.lemmas.Result.{err_from_is_err_and}
 use Rattle.translator.proofs.Wholes.{no_call, valued_fault, value-done}
 use Rattle.translator.proofs.expression.whole.Goals as goal

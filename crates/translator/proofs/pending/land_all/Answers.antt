@@ -1,4 +1,4 @@
-use Rattle.std.proofs.Common.{◌≡◌, ◌<◌, cond, length, sym, ap, ◌∙◌, arith}
+use Rattle.std.proofs.Common.{◌≡◌, ◌<◌, cond, length, sym, arith}
 use Rattle.stacks.specs.Held.{seen}
 use Rattle.translator.proofs.Jumps.{landing_more, never_empty, landing_done}
 use Rattle.translator.proofs.pending.land_all.Goals as goal

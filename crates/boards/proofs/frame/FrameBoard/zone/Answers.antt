@@ -3,7 +3,6 @@ use Rattle.std.proofs.lemmas.Nat.{mul-le}
 use Rattle.std.proofs.lemmas.Result.{err_from_is_err_and}
 use Rattle.std.proofs.lemmas.Int.{to_z-of_z}
 use Rattle.boards.specs.Kinds.{frame_meaning}
-use Rattle.boards.specs.Tile.{tile_mean}
 use Rattle.boards.proofs.Zones.{index_below, zone_there, zone_missing}
 use Rattle.boards.proofs.frame.FrameBoard.zone.Goals as goal
 

@@ -1,4 +1,4 @@
-use Rattle.std.proofs.Common.{arith, rules}
+use Rattle.std.proofs.Common.{arith}
 use Rattle.std.proofs.lemmas.Bool.Decides.{nat_tests}
 use Rattle.boards.proofs.Crops.{crop_of_crop}
 use Rattle.boards.proofs.window.Window.through.Goals as goal

@@ -1,5 +1,4 @@
-use Rattle.std.proofs.Common.{◌≡◌, ◌+◌, ◌-◌, ◌<◌, length, get_or, set, pos, sym, refl, ap, ◌∙◌, arith, w32, SFits, to_z, of_z, rules}
-use Rattle.std.proofs.lemmas.Int.{to_z-of_z}
+use Rattle.std.proofs.Common.{◌-◌, refl, arith}
 use Rattle.machine.proofs.Moving.{went, one-gone}
 use Rattle.machine.proofs.memory.Memory.discard.Goals as goal
 

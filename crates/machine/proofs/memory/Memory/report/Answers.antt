@@ -1,10 +1,8 @@
-use Rattle.std.proofs.Common.{◌≡◌, ◌+◌, ◌-◌, ◌<◌, length, get_or, pos, sym, refl, ap, ◌∙◌, arith, w32, SFits, rules}
+use Rattle.std.proofs.Common.{◌-◌, get_or, pos, sym, refl, ap, ◌∙◌, arith, w32, SFits, rules}
 use Rattle.std.proofs.lemmas.Int.{to_z-of_z}
-use Rattle.refusal.specs.Told.{accepted, refused, number_of}
-use Rattle.boards.specs.Meaning.{zone_answer, report_answer, reported}
 use Rattle.machine.specs.declared.ending.Ending.TheVariants.{Board}
 use Rattle.machine.specs.declared.flow.Flow.TheVariants.{Ends}
-use Rattle.machine.specs.Operations.{Did, Reply, zoned, filed}
+use Rattle.machine.specs.Operations.{Did, Reply, filed}
 use Rattle.machine.specs.Views.{tops, store_of}
 use Rattle.machine.proofs.Moving.{went, stood, one-reported}
 use Rattle.machine.proofs.memory.Memory.report.Goals as goal

@@ -1,11 +1,8 @@
-use Rattle.std.proofs.Common.{◌≡◌, ℕ, ◌+◌, ◌-◌, ◌<◌, ◌≤◌, sym, refl, ap, ◌∙◌, subst, arith, rules}
-use Rattle.machine.specs.declared.flow.Flow.{Flow}
-use Rattle.machine.specs.declared.flow.Flow.TheVariants.{Goes, Waits, Ends, Breaks}
+use Rattle.std.proofs.Common.{sym, refl, ◌∙◌, subst, arith}
 use Rattle.machine.specs.Endings.{end_of}
-use Rattle.machine.specs.Steps.{State, Next, go, stop, wait, break, step}
-use Rattle.machine.specs.Views.{state_of, how_of, next_of}
-use Rattle.machine.proofs.Falls.{rest, Falls, step_falls}
-use Rattle.machine.proofs.Looping.{Loop, begins, straight, leapt, ended_same, waited_same, broke_same, inside_go, inside_stop, turned_to, Stopped, same_cursor}
+use Rattle.machine.specs.Views.{state_of}
+use Rattle.machine.proofs.Falls.{Falls, step_falls}
+use Rattle.machine.proofs.Looping.{begins, straight, leapt, ended_same, waited_same, broke_same, inside_go, inside_stop, turned_to, Stopped, same_cursor}
 use Rattle.machine.proofs.memory.Memory.run.Goals as goal
 use Rattle.machine.proofs.memory.Memory.run.Goals.{then-moved-position, else-moved-position}
 

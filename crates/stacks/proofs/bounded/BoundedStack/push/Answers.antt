@@ -1,5 +1,5 @@
 -- There is room for one more.
-use Rattle.std.proofs.Common.{◌≡◌, ◌<◌, length, take, sym, refl, arith, lt-ltb}
+use Rattle.std.proofs.Common.{◌≡◌, length, take, sym, refl, arith, lt-ltb}
 use Rattle.std.proofs.lemmas.List.{length-take-le}
 use Rattle.stacks.proofs.Fronts.{one_more}
 use Rattle.stacks.proofs.bounded.BoundedStack.push.Goals as goal

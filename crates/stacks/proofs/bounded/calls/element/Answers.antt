@@ -1,5 +1,5 @@
 -- An element below n is one of the first n.
-use Rattle.std.proofs.Common.{arith, rules}
+use Rattle.std.proofs.Common.{rules}
 use Rattle.stacks.proofs.Fronts.{element_there, element_missing}
 use Rattle.stacks.proofs.bounded.calls.element.Goals as goal
 

@@ -1,4 +1,4 @@
-use Rattle.std.proofs.Common.{sym, ◌∙◌, w32, SFits, rules}
+use Rattle.std.proofs.Common.{sym, w32, SFits, rules}
 use Rattle.std.proofs.lemmas.Int.{to_z-of_z}
 use Rattle.stacks.specs.Held.{seen}
 use Rattle.translator.proofs.Jumps.{lands_there, lands_nowhere}
