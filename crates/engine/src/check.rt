@@ -1,4 +1,4 @@
-// The check of a source, for C.
+// The check of a source, as one number.
 ghost use Rattle.translator.specs.Translation.{OneAnswer};
 ghost use Rattle.engine.specs.Checked.{Checked};
 
@@ -7,8 +7,7 @@ use machine::Instruction;
 use translator::translate;
 
 // Whether a source would be loaded: 0, or the number of its refusal times 65,536 and the place. The lists are its own.
-#[unsafe(no_mangle)]
-pub extern "C" fn fennec_check(source: &[u8]) -> u32
+pub fn fennec_check(source: &[u8]) -> u32
     ensures answer { Checked source.now result }
     ensures only { OneAnswer }
 {
