@@ -1,7 +1,7 @@
 #!/bin/sh
 # Prints, from one run: the processor's instructions for each instruction of the stack machine, counted by valgrind's
 # callgrind (two lengths of run, so that the program's start cancels out), and the time of the same work on the machine
-# and in Lua 5.4. Build first: rt check machine_bench. Needs valgrind and lua5.4.
+# and in Lua 5.4. Build first: tools/build machine_bench. Needs valgrind and lua5.4.
 set -eu
 here=$(dirname "$0")
 bin=$here/../target/bin/machine_bench

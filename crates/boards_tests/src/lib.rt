@@ -1,6 +1,6 @@
+// Boards on examples.
 #![tactic(auto)]
 
-// Boards on examples.
 #[cfg(test)]
 mod crops;
 #[cfg(test)]

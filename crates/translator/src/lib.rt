@@ -16,4 +16,5 @@ mod translation;
 mod typed;
 
 pub use counts::Counts;
+pub use layout::scripts_have_faithful_code;
 pub use translation::{CODE_LIMIT, translate};
