@@ -1,7 +1,7 @@
 // Operators of two numbers.
-ghost use Rattle.std.specs.Prelude.{◌≡◌, Bool};
+ghost use Rattle.std.specs.Prelude.{◌≡◌};
 ghost use Rattle.std.specs.Int.{w32};
-ghost use Rattle.ints.specs.Arith.{compute, flag};
+ghost use Rattle.ints.specs.Arith.{compute};
 
 use crate::operator::Operator;
 
@@ -14,29 +14,11 @@ pub fn apply(op: Operator, l: i32, r: i32) -> Option<i32>
         Operator::Add => Some(l.wrapping_add(r)),
         Operator::Sub => Some(l.wrapping_sub(r)),
         Operator::Mul => Some(l.wrapping_mul(r)),
-        Operator::Div => {
-            if r == 0 {
-                None
-            } else {
-                Some(l.wrapping_div(r))
-            }
-        }
-        Operator::Rem => {
-            if r == 0 {
-                None
-            } else {
-                Some(l.wrapping_rem(r))
-            }
-        }
-        Operator::Less => Some(bit(l < r)),
-        Operator::Greater => Some(bit(l > r)),
-        Operator::Equal => Some(bit(l == r)),
+        Operator::Less => Some(i32::from(l < r)),
+        Operator::Greater => Some(i32::from(l > r)),
+        Operator::Equal => Some(i32::from(l == r)),
+        Operator::Div if r != 0 => Some(l.wrapping_div(r)),
+        Operator::Rem if r != 0 => Some(l.wrapping_rem(r)),
+        Operator::Div | Operator::Rem => None,
     }
-}
-
-// 1 for true, 0 for false.
-pub(crate) fn bit(b: bool) -> i32
-    ensures { result ≡ flag b }
-{
-    if b { 1 } else { 0 }
 }

@@ -3,7 +3,6 @@ ghost use Rattle.std.specs.Prelude.{◌≡◌, pos};
 ghost use Rattle.std.specs.Int.{int_wrap, w32};
 ghost use Rattle.ints.specs.Arith.{changed};
 
-use crate::binary::bit;
 use crate::operator::Unary;
 
 // The result of `op v`.
@@ -11,11 +10,8 @@ pub fn change(op: Unary, v: i32) -> i32
     ensures { result ≡ changed op v }
 {
     match op {
-        Unary::Low => {
-            let low = v.rem_euclid(256);
-            if low < 128 { low } else { low - 256 }
-        }
-        Unary::Not => bit(v == 0),
+        Unary::Low => i32::from((v.rem_euclid(256) as u8).cast_signed()),
+        Unary::Not => i32::from(v == 0),
     }
 }
 
@@ -23,9 +19,5 @@ pub fn change(op: Unary, v: i32) -> i32
 pub fn signed(x: u32) -> i32
     ensures { result ≡ int_wrap w32 (pos x) }
 {
-    if x < 0x8000_0000 {
-        x as i32
-    } else {
-        -1 - (0xffff_ffff - x) as i32
-    }
+    x.cast_signed()
 }

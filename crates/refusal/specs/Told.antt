@@ -1,5 +1,6 @@
 -- What a call says to its caller: an answer, or a refusal's number and place.
-use Rattle.std.specs.Prelude.{ℕ, Ok, Err, Result}
+use Rattle.std.specs.Prelude.{ℕ, Ok, Err, Result, List, ◌++◌, codes}
+use Rattle.std.specs.Fmt.{decimal}
 use Rattle.refusal.specs.declared.reason.Reason.{Reason}
 use Rattle.refusal.specs.declared.reason.Reason.TheVariants.{SourceTooLong, TokenListShort, CodeListShort, StrayByte, UnclosedComment, BadCharacter, NumberTooLarge, TooManyTokens, UnexpectedToken, TooDeep, UnlistedExtern, DuplicateName, AbsentName, MisusedName, TypeMismatch, OutsideLoop, TooManyCells, NothingLoaded, CodeListCut, TooManyTicks, RunOver, GrantTooLarge, NoSuchZone, ReportsFull, BadDimensions, AllowanceTooLarge, CropOutside}
 use Rattle.refusal.specs.declared.reason.Refusal.{Refusal}
@@ -43,3 +44,7 @@ pub data Told (X : Type 0) : Type 0 where
 abbrev pub told : {X : Type 0} → Result X Refusal → Told X
 told (Ok x) = accepted x
 told (Err e) = refused (number_of e.reason) e.place
+
+-- what is printed of a refusal: the word, its number and its place, with a blank between them
+abbrev pub line_of : Refusal → List ℕ
+line_of e = codes "refused " ++ decimal (number_of e.reason) ++ codes " " ++ decimal e.place

@@ -1,7 +1,6 @@
 // Why a call is refused, and where: one type for every layer.
 #![tactic(auto)]
 
-mod number;
 mod reason;
 
 pub use reason::{Reason, Refusal};

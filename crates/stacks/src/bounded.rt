@@ -5,9 +5,10 @@ mod calls;
 mod height;
 
 // There is no room for one more element.
-#[derive(Clone, Copy)]
+#[derive(Clone, Copy, PartialEq, Eq, Debug)]
 pub struct Full;
 
+// The memory is the caller's, since there is no heap, so how many elements there are stands beside it.
 #[derive(Drop)]
 pub struct BoundedStack<'a, T> {
     items: &'a mut [T],

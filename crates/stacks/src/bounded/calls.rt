@@ -1,17 +1,10 @@
-// Calls on a bounded stack. Each says what the stack holds afterwards, and that it still stands over the memory it was lent.
+// Calls on a bounded stack. Each says what the stack holds afterwards, and that it still stands over the memory it was lent:
+// a model would show the elements alone, so this stays in each contract.
 ghost use Rattle.std.specs.Prelude.{◌≡◌, ◌≤◌, [], length, take, is_ok};
 ghost use Rattle.std.specs.List.{slice_get};
 ghost use Rattle.stacks.specs.Held.{holding, seen, has_room, pushed, top, popped, cut, replaced};
 
 use super::{BoundedStack, Full};
-
-// The element at `i` of the first `n` of `items`, if there is one.
-fn element<T: Copy>(items: &[T], n: usize, i: usize) -> Option<T>
-    requires { n ≤ length items.now }
-    ensures { result ≡ slice_get (take n items.now) i }
-{
-    if i < n { Some(items[i]) } else { None }
-}
 
 impl<'a, T: Copy> BoundedStack<'a, T> {
     // An empty stack over `items`, as high as there are items.
@@ -37,12 +30,18 @@ impl<'a, T: Copy> BoundedStack<'a, T> {
         }
     }
 
+    // The elements, the oldest first.
+    pub fn as_slice(&self) -> &[T]
+        ensures { result.now ≡ (seen self.now).held }
+    {
+        &self.items[..self.len]
+    }
+
     // The element at `i`, counted from the oldest.
     pub fn get(&self, i: usize) -> Option<T>
         ensures { result ≡ slice_get (seen self.now).held i }
     {
-        let n = self.len;
-        element(&*self.items, n, i)
+        self.as_slice().get(i).copied()
     }
 
     // Takes the newest element off.

@@ -9,11 +9,8 @@ returns-in-Add c = search (rules, wraps)
 pub returns-in-Sub : goal.returns-in-Sub
 returns-in-Sub c = search (rules, wraps)
 
-pub returns-in-Mul : goal.returns-in-Mul
-returns-in-Mul c = search (rules, wraps)
-
-pub returns-else-r-eq0 : goal.returns-else-r-eq0
-returns-else-r-eq0 c =
+pub returns-in-Div : goal.returns-in-Div
+returns-in-Div c =
     let q = c.wrapping_div.result in
     let f : SFits w32 q = search rules in
-    rw c.in-Div.is (quotient_is c.args.l c.args.r q c.ranges.l c.ranges.r f c.if-r-eq0.false c.wrapping_div.ensures)
+    rw c.in-Div.is (quotient_is c.args.l c.args.r q c.ranges.l c.ranges.r f c.if-r-ne0.true c.wrapping_div.ensures)

@@ -1,9 +1,9 @@
-use Rattle.std.proofs.Common.{arith}
-use Rattle.ints.proofs.Wraps.{bits_wrapped, high_bits}
+use Rattle.std.proofs.Common.{◌∙◌, w32, SFits, rules, arith}
+use Rattle.std.proofs.lemmas.Int.{to_z-of_z}
+use Rattle.ints.proofs.Wraps.{bits_wrapped}
 use Rattle.ints.proofs.unary.signed.Goals as goal
 
-pub returns-then-x-lt2147483648 : goal.returns-then-x-lt2147483648
-returns-then-x-lt2147483648 c = bits_wrapped c.args.x (omega arith)
-
-pub returns-else-x-lt2147483648 : goal.returns-else-x-lt2147483648
-returns-else-x-lt2147483648 c = high_bits c.args.x (omega arith) (omega arith)
+pub returns : goal.returns
+returns c =
+    let f : SFits w32 c.cast_signed.result = search rules in
+    to_z-of_z w32 c.cast_signed.result f ∙ c.cast_signed.ensures ∙ bits_wrapped c.args.x (omega arith)
