@@ -51,7 +51,7 @@ run_covers p (b ∷ bs) u h = subst (λ (n : ℕ). suc (length bs) ≤ n) (sym (
 
 -- the first byte of some bytes, with more after them
 first_class : (bs u : List ℕ) (c : Class) → class_of (get_or bs 0 0) ≡ c → ltb 0 (length bs) ≡ true → class_of (get_or (bs ++ u) 0 0) ≡ c
-first_class [] u c e n = let z : ◌≡◌ {A = ℕ} 0 1 = cc in absurd (let b : ⊥ = omega arith in b)
+first_class [] u c e n = absurd (let b : ⊥ = cc in b)
 first_class (b ∷ bs) u c e n = e
 
 -- each keyword is a letter, then bytes of a word
@@ -116,7 +116,7 @@ decimal_covers d (x ∷ ds) u h true e =
     let opens = and_parts (eqb d 48) (eqb x 120 && is_hexadecimal (get_or (ds ++ u) 0 0)) e in
     let is_x : x ≡ 120 = eqb-true x 120 (and_parts (eqb x 120) (is_hexadecimal (get_or (ds ++ u) 0 0)) opens.1).0 in
     let digit : is_digit 120 ≡ true = ap is_digit (sym is_x) ∙ h.1.0 in
-    let z : ◌≡◌ {A = ℕ} 0 1 = cc in absurd (let b : ⊥ = omega arith in b)
+    absurd (let b : ⊥ = cc in b)
 decimal_covers d ds u h false e = omega (arith, run_covers is_digit (d ∷ ds) u h)
 
 escape_listed : (es : List (ℕ × ℕ)) (c v : ℕ) → Listed (c, v) es → escape_reach (escape_in es c) ≡ 4

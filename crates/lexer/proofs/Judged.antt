@@ -111,8 +111,8 @@ hexadecimal_token (d ∷ ds) h e = hexadecimal d ds refl e refl refl
 
 -- the bytes after `0x`
 prefix : (r : List ℕ) (m : ℕ) → opens_hexadecimal r ≡ true → take (2 + m) r ≡ 48 ∷ 120 ∷ take m (drop 2 r)
-prefix [] m e = let z : ◌≡◌ {A = ℕ} 0 1 = cc in absurd (let b : ⊥ = omega arith in b)
-prefix (a ∷ []) m e = let f : false ≡ true = (and_parts (eqb a 48) false e).1 in let z : ◌≡◌ {A = ℕ} 0 1 = cc in absurd (let b : ⊥ = omega arith in b)
+prefix [] m e = absurd (let b : ⊥ = cc in b)
+prefix (a ∷ []) m e = let f : false ≡ true = (and_parts (eqb a 48) false e).1 in absurd (let b : ⊥ = cc in b)
 prefix (a ∷ b ∷ r) m e =
     let p = and_parts (eqb a 48) (eqb b 120 && is_hexadecimal (get_or r 0 0)) e in
     let x : a ≡ 48 = eqb-true a 48 p.0 in
@@ -164,7 +164,7 @@ quote_is : (b : ℕ) → class_of b ≡ Quote → b ≡ 39
 quote_is b h = eqb-true b 39 (quote_rule (is_blank b) (is_letter b) (is_digit b) (eqb b 95) (eqb b 39) (is_mark b) h)
 
 escape_found : (es : List (ℕ × ℕ)) (c v : ℕ) → escape_in es c ≡ Some v → Listed (c, v) es
-escape_found [] c v e = let z : ◌≡◌ {A = ℕ} 0 1 = cc in absurd (let b : ⊥ = omega arith in b)
+escape_found [] c v e = absurd (let b : ⊥ = cc in b)
 escape_found (x ∷ es) c v e = go (eqb c x.0) refl e (escape_found es c v)
   where
     go : (t : Bool) → eqb c x.0 ≡ t → cond t (Some x.1) (escape_in es c) ≡ Some v → (escape_in es c ≡ Some v → Listed (c, v) es) → ((c, v) ≡ x) ⊎ Listed (c, v) es
@@ -222,7 +222,7 @@ judged_character r e = go (eqb (get_or r 1 0) 92 && eqb (get_or r 3 0) 39) refl 
 
 begins-take : (s r : List ℕ) → begins s r ≡ true → take (length s) r ≡ s
 begins-take [] r e = refl
-begins-take (x ∷ s) [] e = let z : ◌≡◌ {A = ℕ} 0 1 = cc in absurd (let b : ⊥ = omega arith in b)
+begins-take (x ∷ s) [] e = absurd (let b : ⊥ = cc in b)
 begins-take (x ∷ s) (b ∷ r) e = let p = and_parts (eqb b x) (begins s r) e in λ i. eqb-true b x p.0 i ∷ begins-take s r p.1 i
 
 abbrev MarkFound : List Kind → List ℕ → Option (Kind × ℕ) → Type 0
@@ -267,3 +267,9 @@ judged r h = go (class_of (get_or r 0 0)) refl
 -- the longest token has at least one byte
 pub longest_bytes : (r : List ℕ) (n : ℕ) (k : Kind) (v : ℕ) → Longest r n k v → 0 < n
 longest_bytes r n k v l = omega (arith, token_bytes (take n r) k v l.is, length-take-le n r l.within)
+
+-- the token at the front takes up at least one byte, lies within the rest, and its value is a number of the language
+pub bounded : (r : List ℕ) (k : Kind) (n v : ℕ) → 0 < length r → token_front (class_of (get_or r 0 0)) r ≡ token k n v → (0 < n) × (n ≤ length r) × (v ≤ greatest)
+bounded r k n v h e =
+    let j : Judged r (token k n v) = subst (Judged r) e (judged r h) in
+    (longest_bytes r n k v j.0, j.0.within, j.1)

@@ -5,6 +5,7 @@ use Rattle.refusal.specs.declared.reason.Refusal.{Refusal}
 use Rattle.refusal.specs.Told.{Told, accepted, refused, number_of}
 use Rattle.lexer.specs.declared.kind.Kind.{Kind}
 use Rattle.lexer.specs.declared.kind.Token.{Token}
+use Rattle.lexer.specs.declared.reader.Reader.{Reader}
 use Rattle.lexer.specs.declared.reader.State.{State}
 use Rattle.lexer.specs.declared.reader.State.TheVariants.{Code}
 use Rattle.lexer.specs.declared.scan.Run.{Run}
@@ -12,7 +13,7 @@ use Rattle.lexer.specs.declared.scan.Run.TheVariants.{Word, Decimal, Hexadecimal
 use Rattle.lexer.specs.declared.scan.Scanned.{Scanned}
 use Rattle.lexer.specs.Classes.{class_of, is_digit}
 use Rattle.lexer.specs.Constants.{is_hexadecimal}
-use Rattle.lexer.specs.Reading.{Front, token, wrong, is_word, front, token_front, none, fault, Reading, stopped, preceded, token_of, reading_from, token_limit, source_limit}
+use Rattle.lexer.specs.Reading.{Front, token, wrong, is_word, front, token_front, none, fault, Reading, stopped, preceded, token_of, reading_from, token_limit}
 
 -- the bytes of a run
 abbrev pub in_run : Run → ℕ → Bool
@@ -36,12 +37,24 @@ TokenAt s at (Err e) =
 abbrev pub ahead : List ℕ → ℕ → State → ℕ → Reading
 ahead s at state room = reading_from (drop at s) state 0 room at
 
+-- A reader has gone on over its source by so many bytes, into the state.
+pub record Passed (r r' : Reader) (bytes : ℕ) (state : State) : Type 0 where
+  pub source : r'.source ≡ r.source
+  pub at : r'.at ≡ r.at + bytes
+  pub into : r'.state ≡ state
+
+-- A reader has gone on over its source, past what is no part of a token: what is left gives what was left before.
+pub record Came (r r' : Reader) : Type 0 where
+  pub source : r'.source ≡ r.source
+  pub on : r.at ≤ r'.at
+  pub reads : (room : ℕ) → ahead r.source.now r.at r.state room ≡ ahead r.source.now r'.at r'.state room
+
 -- One step of a reader. Where a token begins it has stayed; else it has passed over what is no part of a token.
-abbrev pub Stepped : List ℕ → ℕ → State → ℕ → State → Bool → Type 0
-Stepped s at state at' state' true =
-    (at' ≡ at) × (state ≡ Code) × (state' ≡ Code) × (front Code at (drop at s) ≡ token_front (class_of (slice_index (drop at s) 0)) (drop at s))
-Stepped s at state at' state' false =
-    ((room : ℕ) → ahead s at state room ≡ ahead s at' state' room) × (at < at') × (at' ≤ length s)
+abbrev pub Stepped : Reader → Reader → Bool → Type 0
+Stepped r r' true =
+    (r'.source ≡ r.source) × (r'.at ≡ r.at) × (r.state ≡ Code)
+    × (front Code r.at (drop r.at r.source.now) ≡ token_front (class_of (slice_index (drop r.at r.source.now) 0)) (drop r.at r.source.now))
+Stepped r r' false = Came r r' × (r.at < r'.at)
 
 -- what is read, if a reader has come to the place at with this answer
 abbrev pub after_next : Result (Option Token) Refusal → List ℕ → ℕ → State → ℕ → Reading
@@ -50,21 +63,11 @@ after_next (Ok (Some x)) s at state zero = stopped (fault 8 x.place)
 after_next (Ok (Some x)) s at state (suc room) = preceded x (ahead s at state room)
 after_next (Err e) s at state room = stopped (fault (number_of e.reason) e.place)
 
--- One token is read on: a token takes up at least a byte.
-pub record Next (s : List ℕ) (at : ℕ) (state : State) (at' : ℕ) (state' : State) (r : Result (Option Token) Refusal) : Type 0 where
-  pub reads : (room : ℕ) → ahead s at state room ≡ after_next r s at' state' room
-  pub within : at' ≤ length s
-  pub on : IfOk r (λ x. OnSome x (at < at'))
-
--- the verdict on the length of a source and of a token list, apart from its tokens
-abbrev pub lengths_by : (long short : Bool) → Told (Unit {0})
-lengths_by true short = refused 1 0
-lengths_by false true = refused 2 0
-lengths_by false false = accepted tt
-
--- the same, by the lengths
-abbrev pub lengths_told : ℕ → ℕ → Told (Unit {0})
-lengths_told bytes records = lengths_by (nat_lt source_limit bytes) (nat_lt records token_limit)
+-- One token of the source is read on: a token takes up at least a byte.
+pub record Next (r r' : Reader) (answer : Result (Option Token) Refusal) : Type 0 where
+  pub source : r'.source ≡ r.source
+  pub reads : (room : ℕ) → ahead r.source.now r.at r.state room ≡ after_next answer r.source.now r'.at r'.state room
+  pub on : IfOk answer (λ x. OnSome x (r.at < r'.at))
 
 -- one more token, if there is room for it
 abbrev pub stored_told : ℕ → Token → Told ℕ

@@ -108,6 +108,13 @@ spelling_of CloseBrace = codes "}"
 spelling_of Comma = codes ","
 spelling_of Semicolon = codes ";"
 
+-- what a kind is called: the keyword or mark itself, or a word for names and constants
+abbrev pub label_of : Kind → List ℕ
+label_of Name = codes "name"
+label_of Number = codes "number"
+label_of Character = codes "character"
+label_of k = spelling_of k
+
 -- the keywords
 abbrev pub keywords : List Kind
 keywords =

@@ -3,7 +3,7 @@ ghost use Rattle.std.specs.Prelude.{◌≡◌};
 ghost use Rattle.lexer.specs.Classes.{class_of};
 
 // What a byte can begin.
-#[derive(Clone, Copy)]
+#[derive(Clone, Copy, PartialEq, Eq, Debug)]
 pub(crate) enum Class {
     Blank,
     Letter,
@@ -24,7 +24,7 @@ pub(crate) fn class_of(b: u8) -> Class
     CLASSES[b as usize]
 }
 
-// The class of each byte, by its value.
+// The class of each byte, by its value: a table behind a reference, so that the rule is computed once, in its proof.
 const CLASSES: &[Class; 256] = &[
     Class::Stray,
     Class::Stray,

@@ -1,8 +1,9 @@
 // The kinds of token, and the record of one token.
 
 // What a token is: a name, a constant, or the keyword or mark itself.
-#[derive(Clone, Copy)]
+#[derive(Clone, Copy, PartialEq, Eq, Debug, Default)]
 pub enum Kind {
+    #[default]
     Name,
     Number,
     Character,
@@ -58,7 +59,7 @@ pub enum Kind {
 
 // A token of a source: its kind, the place of its first byte, its length in bytes, and the value of a constant (0 for
 // any other kind).
-#[derive(Clone, Copy)]
+#[derive(Clone, Copy, PartialEq, Eq, Debug, Default)]
 pub struct Token {
     pub kind: Kind,
     pub place: u32,

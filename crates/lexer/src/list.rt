@@ -3,7 +3,7 @@ ghost use Rattle.std.specs.Prelude.{◌≡◌, ◌≤◌, length};
 ghost use Rattle.std.specs.Option.{option_map};
 ghost use Rattle.refusal.specs.Told.{told};
 ghost use Rattle.lexer.specs.Laws.{Decided};
-ghost use Rattle.lexer.specs.Scans.{lengths_told, stored_told, stored_list};
+ghost use Rattle.lexer.specs.Scans.{stored_told, stored_list};
 ghost use Rattle.lexer.specs.Reading.{reading, told_of, written, answer, list_after, text_of, text_at};
 
 use crate::kind::Token;
@@ -16,36 +16,15 @@ pub const SOURCE_LIMIT: usize = 16_384;
 // The most tokens of a source: a token list has at least as many records.
 pub const TOKEN_LIMIT: usize = 1_024;
 
-// A source that is not too long, and a list that is long enough.
-fn check_lengths(bytes: usize, records: usize) -> Result<(), Refusal>
-    ensures { told result ≡ lengths_told bytes records }
-{
-    if bytes > SOURCE_LIMIT {
-        return Err(Refusal {
-            reason: Reason::SourceTooLong,
-            place: 0,
-        });
-    }
-    if records < TOKEN_LIMIT {
-        return Err(Refusal {
-            reason: Reason::TokenListShort,
-            place: 0,
-        });
-    }
-    Ok(())
-}
-
-// Puts a token after the first `count` records, and answers how many they are then.
+// Puts a token after the first `count` records, and answers how many they are then. The list is the caller's, so the count
+// stands beside it.
 fn store(tokens: &mut [Token], count: usize, token: Token) -> Result<usize, Refusal>
     requires { 1024 ≤ length tokens.old }
     ensures answer { told result ≡ stored_told count token }
     ensures list { tokens.new ≡ stored_list tokens.old count token }
 {
     if count >= TOKEN_LIMIT {
-        return Err(Refusal {
-            reason: Reason::TooManyTokens,
-            place: token.place,
-        });
+        return Err(Reason::TooManyTokens.at(token.place));
     }
     tokens[count] = token;
     Ok(count + 1)
@@ -58,6 +37,7 @@ fn fill(source: &[u8], tokens: &mut [Token]) -> Result<usize, Refusal>
     ensures answer { told result ≡ told_of (reading source.now).tokens (reading source.now).fault }
     ensures list { tokens.new ≡ written (reading source.now).tokens tokens.old }
 {
+    // No `for`: after a fault nothing is read on, and an iterator would have to say what comes then.
     let mut reader = Reader::new(source);
     let mut count = 0;
     'tokens: while let Some(token) = reader.next()? {
@@ -73,7 +53,12 @@ pub fn read(source: &[u8], tokens: &mut [Token]) -> Result<usize, Refusal>
     ensures list { tokens.new ≡ list_after source.now tokens.old }
     ensures decided { Decided source.now }
 {
-    check_lengths(source.len(), tokens.len())?;
+    if source.len() > SOURCE_LIMIT {
+        return Err(Reason::SourceTooLong.into());
+    }
+    if tokens.len() < TOKEN_LIMIT {
+        return Err(Reason::TokenListShort.into());
+    }
     fill(source, tokens)
 }
 
@@ -83,18 +68,12 @@ fn part<'a>(source: &'a [u8], token: Token) -> Option<&'a [u8]>
 {
     let start = token.place as usize;
     let end = start + token.length as usize;
-    if end > source.len() {
-        return None;
-    }
-    Some(&source[start..end])
+    source.get(start..end)
 }
 
 // The part of the source that token k names, or nothing if there is no such record or part.
 pub fn text<'a>(source: &'a [u8], tokens: &[Token], k: usize) -> Option<&'a [u8]>
     ensures { option_map (λ x. x.now) result ≡ text_at source.now tokens.now k }
 {
-    if k >= tokens.len() {
-        return None;
-    }
-    part(source, tokens[k])
+    part(source, *tokens.get(k)?)
 }

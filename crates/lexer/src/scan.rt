@@ -4,7 +4,7 @@ ghost use Rattle.std.specs.Option.{ok_or};
 ghost use Rattle.std.specs.List.{prefix_len};
 ghost use Rattle.refusal.specs.declared.reason.Reason.TheVariants.{BadCharacter};
 ghost use Rattle.lexer.specs.Classes.{class_of};
-ghost use Rattle.lexer.specs.Constants.{is_hexadecimal, is_plain, digit_value, value_of, escape_of};
+ghost use Rattle.lexer.specs.Constants.{is_plain, digit_value, value_of, escape_of};
 ghost use Rattle.lexer.specs.Reading.{token, sized, word_front, number_front, character_front, mark_front, token_front};
 ghost use Rattle.lexer.specs.Spelling.{mark_at};
 ghost use Rattle.lexer.specs.Scans.{in_run, front_of, TokenAt};
@@ -15,7 +15,7 @@ use crate::spellings::{mark_at, word_kind};
 use refusal::{Reason, Refusal};
 
 // A token, apart from its place.
-#[derive(Clone, Copy)]
+#[derive(Clone, Copy, PartialEq, Eq, Debug)]
 struct Scanned {
     kind: Kind,
     length: usize,
@@ -23,7 +23,7 @@ struct Scanned {
 }
 
 // The bytes that a name or a number goes on with.
-#[derive(Clone, Copy)]
+#[derive(Clone, Copy, PartialEq, Eq, Debug)]
 enum Run {
     Word,
     Decimal,
@@ -38,9 +38,9 @@ impl Run {
         ensures { result ≡ in_run self b }
     {
         match self {
-            Run::Word => matches!(b, b'a'..=b'z' | b'A'..=b'Z' | b'0'..=b'9' | b'_'),
-            Run::Decimal => matches!(b, b'0'..=b'9'),
-            Run::Hexadecimal => is_hexadecimal(b),
+            Run::Word => b.is_ascii_alphanumeric() || b == b'_',
+            Run::Decimal => b.is_ascii_digit(),
+            Run::Hexadecimal => b.is_ascii_hexdigit(),
         }
     }
 
@@ -49,31 +49,15 @@ impl Run {
         ensures same { result ≡ prefix_len (in_run self) rest.now }
         ensures within { result ≤ length rest.now }
     {
-        for (i, b) in rest.iter().enumerate() {
-            if !self.has(*b) {
-                return i;
-            }
-        }
-        rest.len()
+        rest.iter().take_while(|b| self.has(**b)).count()
     }
-}
-
-fn is_hexadecimal(b: u8) -> bool
-    ensures { result ≡ is_hexadecimal b }
-{
-    matches!(b, b'0'..=b'9' | b'a'..=b'f' | b'A'..=b'F')
 }
 
 fn digit_value(b: u8) -> u64
     ensures value { result ≡ digit_value b }
     ensures small { result < 16 }
 {
-    match b {
-        b'0'..=b'9' => (b - b'0') as u64,
-        b'a'..=b'f' => (b - b'a' + 10) as u64,
-        b'A'..=b'F' => (b - b'A' + 10) as u64,
-        _ => 0,
-    }
+    u64::from(char::from(b).to_digit(16).unwrap_or(0))
 }
 
 // The number that the digits stand for, or one more than the greatest if it is too large.
@@ -110,7 +94,7 @@ fn number(rest: &[u8]) -> Result<Scanned, Reason>
     ensures { front_of result ≡ number_front rest.now }
 {
     match rest {
-        [b'0', b'x', d, more @ ..] if is_hexadecimal(*d) => {
+        [b'0', b'x', d, more @ ..] if Run::Hexadecimal.has(*d) => {
             numeral(rest, 2, 1 + Run::Hexadecimal.length(more), 16)
         }
         _ => numeral(rest, 0, Run::Decimal.length(rest), 10),
@@ -134,18 +118,18 @@ fn escape(c: char) -> Result<u8, Reason>
     ensures { result ≡ ok_or (escape_of c) BadCharacter }
 {
     match c {
-        'n' => Ok(10),
-        't' => Ok(9),
-        'r' => Ok(13),
+        'n' => Ok(b'\n'),
+        't' => Ok(b'\t'),
+        'r' => Ok(b'\r'),
         'a' => Ok(7),
         'b' => Ok(8),
         'f' => Ok(12),
         'v' => Ok(11),
         '0' => Ok(0),
-        '\\' => Ok(92),
-        '\'' => Ok(39),
-        '"' => Ok(34),
-        '?' => Ok(63),
+        '\\' => Ok(b'\\'),
+        '\'' => Ok(b'\''),
+        '"' => Ok(b'"'),
+        '?' => Ok(b'?'),
         _ => Err(Reason::BadCharacter),
     }
 }
@@ -153,7 +137,7 @@ fn escape(c: char) -> Result<u8, Reason>
 fn is_plain(b: u8) -> bool
     ensures { result ≡ is_plain b }
 {
-    b >= 32 && b <= 126 && b != b'\'' && b != b'\\'
+    matches!(b, b' '..=b'~') && !matches!(b, b'\'' | b'\\')
 }
 
 // A character constant, from its opening quote on.
@@ -183,14 +167,12 @@ fn character(rest: &[u8]) -> Result<Scanned, Reason>
 fn mark(rest: &[u8]) -> Result<Scanned, Reason>
     ensures { front_of result ≡ mark_front (mark_at rest.now) }
 {
-    match mark_at(rest) {
-        Some((kind, length)) => Ok(Scanned {
-            kind,
-            length,
-            value: 0,
-        }),
-        None => Err(Reason::StrayByte),
-    }
+    let (kind, length) = mark_at(rest).ok_or(Reason::StrayByte)?;
+    Ok(Scanned {
+        kind,
+        length,
+        value: 0,
+    })
 }
 
 // The token that `rest` begins with.
@@ -214,20 +196,15 @@ pub(crate) fn token_at(source: &[u8], at: usize) -> Result<Token, Refusal>
     ensures { TokenAt source.now at result }
 {
     let place = at as u32;
-    match scan(&source[at..]) {
-        Ok(found) => {
-            let Scanned {
-                kind,
-                length,
-                value,
-            } = found;
-            Ok(Token {
-                kind,
-                place,
-                length: length as u32,
-                value: value as i32,
-            })
-        }
-        Err(reason) => Err(Refusal { reason, place }),
-    }
+    let Scanned {
+        kind,
+        length,
+        value,
+    } = scan(&source[at..]).map_err(|reason| reason.at(place))?;
+    Ok(Token {
+        kind,
+        place,
+        length: length as u32,
+        value: value as i32,
+    })
 }

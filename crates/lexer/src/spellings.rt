@@ -1,9 +1,9 @@
 // The spelling of keywords and marks.
 ghost use Rattle.std.specs.Prelude.{◌≡◌};
-ghost use Rattle.std.specs.Str.{bytes_eq};
 ghost use Rattle.lexer.specs.Spelling.{spelling_of, word_kind, mark_at};
 
 use crate::kind::Kind;
+use std::fmt;
 
 const KEYWORDS: &[Kind; 18] = &[
     Kind::Bool,
@@ -26,78 +26,95 @@ const KEYWORDS: &[Kind; 18] = &[
     Kind::False,
 ];
 
+// The spelling of a keyword or mark, as text.
+fn text(kind: Kind) -> &'static str
+    ensures { result.now ≡ spelling_of kind }
+{
+    match kind {
+        Kind::Name | Kind::Number | Kind::Character => "",
+        Kind::Bool => "bool",
+        Kind::Char => "char",
+        Kind::Int => "int",
+        Kind::Float => "float",
+        Kind::Void => "void",
+        Kind::Extern => "extern",
+        Kind::Static => "static",
+        Kind::If => "if",
+        Kind::Else => "else",
+        Kind::While => "while",
+        Kind::Do => "do",
+        Kind::For => "for",
+        Kind::To => "to",
+        Kind::Break => "break",
+        Kind::Continue => "continue",
+        Kind::Return => "return",
+        Kind::True => "true",
+        Kind::False => "false",
+        Kind::Plus => "+",
+        Kind::Minus => "-",
+        Kind::Star => "*",
+        Kind::Slash => "/",
+        Kind::Percent => "%",
+        Kind::Assign => "=",
+        Kind::Equal => "==",
+        Kind::NotEqual => "!=",
+        Kind::Not => "!",
+        Kind::Less => "<",
+        Kind::LessEqual => "<=",
+        Kind::Greater => ">",
+        Kind::GreaterEqual => ">=",
+        Kind::And => "&&",
+        Kind::Or => "||",
+        Kind::PlusAssign => "+=",
+        Kind::MinusAssign => "-=",
+        Kind::StarAssign => "*=",
+        Kind::SlashAssign => "/=",
+        Kind::PercentAssign => "%=",
+        Kind::AndAssign => "&&=",
+        Kind::OrAssign => "||=",
+        Kind::OpenParen => "(",
+        Kind::CloseParen => ")",
+        Kind::OpenBrace => "{",
+        Kind::CloseBrace => "}",
+        Kind::Comma => ",",
+        Kind::Semicolon => ";",
+    }
+}
+
 // The spelling of a keyword or mark; a name or a constant has none of its own.
 pub fn spelling(kind: Kind) -> &'static [u8]
     ensures { result.now ≡ spelling_of kind }
 {
-    match kind {
-        Kind::Name | Kind::Number | Kind::Character => b"",
-        Kind::Bool => b"bool",
-        Kind::Char => b"char",
-        Kind::Int => b"int",
-        Kind::Float => b"float",
-        Kind::Void => b"void",
-        Kind::Extern => b"extern",
-        Kind::Static => b"static",
-        Kind::If => b"if",
-        Kind::Else => b"else",
-        Kind::While => b"while",
-        Kind::Do => b"do",
-        Kind::For => b"for",
-        Kind::To => b"to",
-        Kind::Break => b"break",
-        Kind::Continue => b"continue",
-        Kind::Return => b"return",
-        Kind::True => b"true",
-        Kind::False => b"false",
-        Kind::Plus => b"+",
-        Kind::Minus => b"-",
-        Kind::Star => b"*",
-        Kind::Slash => b"/",
-        Kind::Percent => b"%",
-        Kind::Assign => b"=",
-        Kind::Equal => b"==",
-        Kind::NotEqual => b"!=",
-        Kind::Not => b"!",
-        Kind::Less => b"<",
-        Kind::LessEqual => b"<=",
-        Kind::Greater => b">",
-        Kind::GreaterEqual => b">=",
-        Kind::And => b"&&",
-        Kind::Or => b"||",
-        Kind::PlusAssign => b"+=",
-        Kind::MinusAssign => b"-=",
-        Kind::StarAssign => b"*=",
-        Kind::SlashAssign => b"/=",
-        Kind::PercentAssign => b"%=",
-        Kind::AndAssign => b"&&=",
-        Kind::OrAssign => b"||=",
-        Kind::OpenParen => b"(",
-        Kind::CloseParen => b")",
-        Kind::OpenBrace => b"{",
-        Kind::CloseBrace => b"}",
-        Kind::Comma => b",",
-        Kind::Semicolon => b";",
-    }
+    text(kind).as_bytes()
 }
 
-fn same(a: &[u8], b: &[u8]) -> bool
-    ensures { result ≡ bytes_eq a.now b.now }
-{
-    a == b
+// The keyword or mark itself, or a word for what has no spelling of its own.
+impl fmt::Display for Kind {
+    ghost use Rattle.std.specs.Prelude.{Some};
+    ghost use Rattle.lexer.specs.Spelling.{label_of};
+
+    ghost output = { λ kind. Some (label_of kind) };
+
+    fn fmt<W: fmt::Write>(&self, f: &mut fmt::Formatter<W>) -> fmt::Result {
+        let label = match *self {
+            Kind::Name => "name",
+            Kind::Number => "number",
+            Kind::Character => "character",
+            kind => text(kind),
+        };
+        write!(f, "{label}")
+    }
 }
 
 // The kind of a word: the keyword so spelled, or a name.
 pub(crate) fn word_kind(word: &[u8]) -> Kind
     ensures { result ≡ word_kind word.now }
 {
-    for i in 0..KEYWORDS.len() {
-        let keyword = KEYWORDS[i];
-        if same(word, spelling(keyword)) {
-            return keyword;
-        }
-    }
-    Kind::Name
+    KEYWORDS
+        .iter()
+        .copied()
+        .find(|keyword| word == spelling(*keyword))
+        .unwrap_or(Kind::Name)
 }
 
 // The longest mark that `rest` begins with, and its length.

@@ -1,31 +1,19 @@
 // Records that no reading gives, and lists of a wrong length.
 #[cfg(test)]
 mod cases {
-    use lexer::{Kind, Token};
-    use std::test::Fail;
-
-    const SHORT: [Token; 1023] = [Token {
-        kind: Kind::Name,
-        place: 0,
-        length: 0,
-        value: 0,
-    }; 1023];
+    use lexer::Token;
 
     fn named(place: u32, length: u32) -> [Token; 1] {
         [Token {
-            kind: Kind::Name,
             place,
             length,
-            value: 0,
+            ..Token::default()
         }]
     }
 
     // The length of the text of record k, in a source of three bytes; 9 if there is none.
     fn text_length(record: [Token; 1], k: usize) -> usize {
-        match lexer::text(b"abc", &record, k) {
-            Some(text) => text.len(),
-            None => 9,
-        }
+        lexer::text(b"abc", &record, k).map_or(9, |text| text.len())
     }
 
     #[test]
@@ -41,16 +29,13 @@ mod cases {
     }
 
     #[test]
-    fn short_list(rt: HostRuntime) -> Result<(), Fail> {
-        let mut tokens = SHORT;
-        match lexer::read(b"x", &mut tokens) {
-            Ok(_) => Err(Fail::new("a short list was taken")),
-            Err(refusal) => {
-                assert_eq!(rt; refusal.reason.number(), 2);
-                assert_eq!(rt; refusal.place, 0);
-                assert_eq!(rt; tokens[0].length, 0);
-                Ok(())
-            }
-        }
+    fn short_list(rt: HostRuntime) {
+        let mut tokens = [Token::default(); 1023];
+        let refusal = lexer::read(b"x", &mut tokens).err();
+        assert_eq!(rt;
+            refusal.map(|refusal| (refusal.reason.number(), refusal.place)),
+            Some((2, 0))
+        );
+        assert_eq!(rt; tokens[0].length, 0);
     }
 }

@@ -1,35 +1,58 @@
-use Rattle.std.proofs.Common.{◌≡◌, get_or, drop, sym, ap, ◌∙◌, arith, rules}
+use Rattle.std.proofs.Common.{◌≡◌, true, false, sym, [], ◌∷◌, rules}
 use Rattle.lexer.specs.declared.class.Class.TheVariants.{Blank, Mark}
-use Rattle.lexer.specs.Classes.{class_of}
-use Rattle.lexer.proofs.Ahead.{went, blank_front, line_goes_on, long_goes_on, no_feed, no_close}
+use Rattle.lexer.proofs.Ahead.{left, went, stayed, begun, blank_front, line_opens, long_opens, line_ends, line_goes_on, long_closes, long_goes_on, mark_begins, solid_begins}
 use Rattle.lexer.proofs.reader.Reader.step.Goals as goal
 
 pub returns-in-Code-Blank : goal.returns-in-Code-Blank
 returns-in-Code-Blank c =
-    let s = c.args.self.now.source.now in
-    let at = c.args.self.now.at in
-    let blank : class_of (get_or (drop at s) 0 0) ≡ Blank = ap class_of (sym c.byte.ensures) ∙ sym c.in-Code-Blank.ensures in
-    record {
-      source = c.pass.ensures.source;
-      step = went s at _ _ _ _ _ 0 c.requires.within c.in-Code-Blank.is-0 (blank_front at (drop at s) blank) (omega arith) c.pass.ensures.at c.pass.ensures.state;
-    }
+    let r = c.args.self.now in
+    went r _ _ _ 0 c.requires c.in-Code-Blank.is-0 (blank_front r.at (left r) (sym c.in-Code-Blank.ensures)) c.pass.ensures
+
+pub returns-in-Code-Mark : goal.returns-in-Code-Mark
+returns-in-Code-Mark c =
+    let r = c.args.self.now in
+    let line = begun (47 ∷ 47 ∷ []) (left r) true c.if-starts_with.ensures.value in
+    went r _ _ _ 1 c.requires c.in-Code-Mark.is-0 (line_opens r.at (left r) (sym c.in-Code-Mark.ensures) line) c.pass-in-Code-Mark.ensures
+
+pub returns-in-Code-Mark-2 : goal.returns-in-Code-Mark-2
+returns-in-Code-Mark-2 c =
+    let r = c.args.self.now in
+    let line = begun (47 ∷ 47 ∷ []) (left r) false c.if-starts_with.ensures.value in
+    let long = begun (47 ∷ 42 ∷ []) (left r) true c.if-starts_with-2.ensures.value in
+    went r _ _ _ 1 c.requires c.in-Code-Mark.is-0 (long_opens r.at (left r) (sym c.in-Code-Mark.ensures) line long) c.pass-in-Code-Mark-2.ensures
+
+pub returns-in-Code-default : goal.returns-in-Code-default
+returns-in-Code-default c =
+    let r = c.args.self.now in
+    let line = begun (47 ∷ 47 ∷ []) (left r) false c.if-starts_with.ensures.value in
+    let long = begun (47 ∷ 42 ∷ []) (left r) false c.if-starts_with-2.ensures.value in
+    stayed r c.in-Code-Mark.is-0 (mark_begins r.at (left r) (sym c.in-Code-Mark.ensures) line long)
+
+pub returns-in-Code-default-2 : goal.returns-in-Code-default-2
+returns-in-Code-default-2 c =
+    let r = c.args.self.now in
+    let blank : c.class_of.result ≡ Blank → ⊥ = λ e. search rules in
+    let mark : c.class_of.result ≡ Mark → ⊥ = λ e. search rules in
+    stayed r c.in-Code-default.is-0 (solid_begins _ r.at (left r) c.class_of.ensures blank mark)
 
 pub returns-in-LineComment-default : goal.returns-in-LineComment-default
 returns-in-LineComment-default c =
-    let s = c.args.self.now.source.now in
-    let at = c.args.self.now.at in
-    let apart : c.class_of.result ≡ Blank → ⊥ = λ e. search rules in
-    record {
-      source = c.pass-in-LineComment-default.ensures.source;
-      step = went s at _ _ _ _ _ 0 c.requires.within c.in-LineComment-default.is-0 (line_goes_on at (drop at s) (no_feed _ (λ e. apart (c.class_of.ensures ∙ ap class_of c.byte.ensures ∙ e)))) (omega arith) c.pass-in-LineComment-default.ensures.at c.pass-in-LineComment-default.ensures.state;
-    }
+    let r = c.args.self.now in
+    went r _ _ _ 0 c.requires c.in-LineComment-default.is-0 (line_ends r.at (left r) c.if-rest-eq10.true) c.pass-in-LineComment-default.ensures
+
+pub returns-in-LineComment-default-2 : goal.returns-in-LineComment-default-2
+returns-in-LineComment-default-2 c =
+    let r = c.args.self.now in
+    went r _ _ _ 0 c.requires c.in-LineComment-default.is-0 (line_goes_on r.at (left r) c.if-rest-eq10.false) c.pass-in-LineComment-default-2.ensures
 
 pub returns-in-LongComment-default : goal.returns-in-LongComment-default
 returns-in-LongComment-default c =
-    let s = c.args.self.now.source.now in
-    let at = c.args.self.now.at in
-    let apart : c.class_of.result ≡ Mark → ⊥ = λ e. search rules in
-    record {
-      source = c.pass-in-LongComment-default.ensures.source;
-      step = went s at _ _ _ _ _ 0 c.requires.within c.in-LongComment-default.is-0 (long_goes_on at c.in-LongComment-default.opened (drop at s) (no_close (drop at s) (λ e. apart (c.class_of.ensures ∙ ap class_of c.byte.ensures ∙ e)))) (omega arith) c.pass-in-LongComment-default.ensures.at c.pass-in-LongComment-default.ensures.state;
-    }
+    let r = c.args.self.now in
+    let closes = begun (42 ∷ 47 ∷ []) (left r) true c.if-starts_with-3.ensures.value in
+    went r _ _ _ 1 c.requires c.in-LongComment-default.is-0 (long_closes r.at _ (left r) closes) c.pass-in-LongComment-default.ensures
+
+pub returns-in-LongComment-default-2 : goal.returns-in-LongComment-default-2
+returns-in-LongComment-default-2 c =
+    let r = c.args.self.now in
+    let closes = begun (42 ∷ 47 ∷ []) (left r) false c.if-starts_with-3.ensures.value in
+    went r _ _ _ 0 c.requires c.in-LongComment-default.is-0 (long_goes_on r.at _ (left r) closes) c.pass-in-LongComment-default-2.ensures
