@@ -1,14 +1,12 @@
 -- What crops show. Assumes nothing.
-use Rattle.std.proofs.Common.{◌≡◌, ℕ, ◌+◌, ◌*◌, ◌/◌, ◌%◌, ◌^◌, ◌<◌, ◌≤◌, true, List, length, ℤ, pos, negsuc, Some, None, refl, ap, ◌∙◌, ⊎_elim, mul_comm, arith}
+use Rattle.std.proofs.Common.{◌≡◌, ℕ, ◌+◌, ◌*◌, ◌/◌, ◌%◌, ◌^◌, ◌<◌, ◌≤◌, true, List, length, ℤ, pos, refl, ap, ◌∙◌, ⊎_elim, mul_comm, arith}
 use Rattle.std.proofs.lemmas.Nat.{mul-le, mul-add-lt, div-mul-add, mod-mul-add, div_below, mod_below}
-use Rattle.std.proofs.lemmas.List.{get_or_past}
 use Rattle.std.proofs.lemmas.Bool.{cases_lt, lt-ltb, le-ltb}
 use Rattle.std.proofs.lemmas.Bool.Decides.{nat_tests}
-use Rattle.refusal.specs.Told.{accepted, refused}
-use Rattle.boards.specs.Meaning.{Meaning, zone_answer}
-use Rattle.boards.specs.Crop.{place_of, numbered, zone_or0, cropped, lies_in, ShowsSound, joined, CropOfCrop}
+use Rattle.boards.specs.Meaning.{Meaning}
+use Rattle.boards.specs.Crop.{place_of, zone_or0, cropped, lies_in, ShowsSound, joined, CropOfCrop}
 use Rattle.boards.specs.declared.window.Window.{Window}
-use Rattle.boards.proofs.Tables.{length-table, get_d_table, table_same}
+use Rattle.boards.proofs.Tables.{length-table, get_or-table, table_same}
 
 -- what it is to lie inside
 record Inside (w : Window) (columns rows : ℕ) : Type 0 where
@@ -65,7 +63,7 @@ module _ (m : Meaning) (v w : Window) (outer : Inside v m.columns m.rows) (inner
 
   zone_joined : zone_or0 (cropped m v) (place_of w v.columns i) ≡ zone_or0 m (place_of (joined v w) m.columns i)
   zone_joined =
-      let here = get_d_table (v.columns * v.rows) (λ j. zone_or0 m (place_of v m.columns j)) (place_of w v.columns i) (pos 0)
+      let here = get_or-table (v.columns * v.rows) (λ j. zone_or0 m (place_of v m.columns j)) (place_of w v.columns i) (pos 0)
       (place_below w v.columns v.rows inner i shown) in
       ⊎_elim
       (λ (l : place_of w v.columns i < 2 ^ 31). rw (lt-ltb (place_of w v.columns i) (2 ^ 31) l) (here ∙ ap (zone_or0 m) place_joined))
@@ -81,20 +79,6 @@ crop_of_crop v w m p q =
     let inner = inside w v.columns v.rows q in
     let same = table_same (w.columns * w.rows) _ _ (zone_joined m v w outer inner) in
     ap (λ (zs : List ℤ). record { columns = w.columns; rows = w.rows; zones = zs; reports = m.reports; allowance = m.allowance }) same
-
--- what a crop answers from what the board below does
-module _ (m : Meaning) (p : ℕ) where
-  pub zone_unnumbered : None ≡ numbered p → pos 0 ≡ zone_or0 m p
-  zone_unnumbered e = grind (arith, nat_tests)
-
-  pub zone_below : (at v : ℤ) → Some at ≡ numbered p → accepted v ≡ zone_answer m at → v ≡ zone_or0 m p
-  zone_below (pos k) v e z = grind (arith, nat_tests)
-  zone_below (negsuc k) v e z = grind (arith, nat_tests)
-
-  pub zone_absent : (at : ℤ) (number place : ℕ) → Some at ≡ numbered p →
-      refused number place ≡ zone_answer m at → pos 0 ≡ zone_or0 m p
-  zone_absent (pos k) number place e z = grind (arith, nat_tests, get_or_past)
-  zone_absent (negsuc k) number place e z = grind (arith, nat_tests)
 
 -- a crop that lies inside a sound board
 module _ (m : Meaning) (w : Window) (lies : lies_in w m.columns m.rows ≡ true) where
@@ -115,5 +99,5 @@ module _ (m : Meaning) (w : Window) (lies : lies_in w m.columns m.rows ≡ true)
             let there : place_of w m.columns i < length m.zones = rw s.zoned (place_below w m.columns m.rows h i l) in
             let small : place_of w m.columns i < 2 ^ 31
             = omega (arith, mul-le m.columns m.rows 64 64 s.columns_most s.rows_most, s.zoned) in
-            grind (arith, nat_tests, length-table, get_d_table);
+            grind (arith, nat_tests, length-table, get_or-table);
       }

@@ -1,5 +1,4 @@
 pub mod Crops
 pub mod Lines
-pub mod Sounds
 pub mod Tables
-pub mod Zones
+pub mod Indices

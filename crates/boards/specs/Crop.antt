@@ -1,11 +1,17 @@
 -- A crop: the part of a board that a window shows.
-use Rattle.std.specs.Prelude.{◌≡◌, ℕ, ◌+◌, ◌*◌, ◌/◌, ◌%◌, ◌^◌, ◌<◌, Bool, true, cond, ◌&&◌, ℤ, pos, Some, None, Ok, Err, Option, Result, nat_le, nat_lt, slice_index_or}
+use Rattle.std.specs.Prelude.{◌≡◌, ℕ, ◌+◌, ◌*◌, ◌/◌, ◌%◌, ◌^◌, ◌<◌, Bool, true, cond, ◌&&◌, List, ◌++◌, codes, ℤ, pos, Some, None, Ok, Err, Option, Result, nat_le, nat_lt, slice_index_or}
+use Rattle.std.specs.Fmt.{decimal}
 use Rattle.refusal.specs.Told.{Told, accepted, refused, number_of}
 use Rattle.boards.specs.Meaning.{Meaning, Sound, zone_answer}
 use Rattle.boards.specs.Table.{table}
 use Rattle.boards.specs.declared.crop.Crop.{Crop}
 use Rattle.boards.specs.declared.crop.RefusedCrop.{RefusedCrop}
 use Rattle.boards.specs.declared.window.Window.{Window}
+
+-- what is printed of a window: its sides, and where it begins
+abbrev pub text_of : Window → List ℕ
+text_of w =
+    decimal w.columns ++ codes " x " ++ decimal w.rows ++ codes " at (" ++ decimal w.left ++ codes ", " ++ decimal w.top ++ codes ")"
 
 -- where zone i of a window stands on a board with so many columns
 abbrev pub place_of : Window → (across i : ℕ) → ℕ

@@ -1,15 +1,19 @@
 -- What the record of reports holds, and the board that zones and such a record make.
-use Rattle.std.specs.Prelude.{ℕ, min, List, take, ℤ}
+use Rattle.std.specs.Prelude.{ℕ, Bool, List, length, ℤ, nat_lt}
 use Rattle.boards.specs.Meaning.{Meaning}
 use Rattle.boards.specs.declared.reports.Reports.{Reports}
 
 -- the reports filed, the oldest first
 abbrev pub filed : Reports → List ℤ
-filed s = take s.len s.list
+filed s = s.list.items
 
--- how many reports the record takes in all: no more than it has room for
+-- how many reports the record takes in all
 abbrev pub allowed : Reports → ℕ
-allowed s = min s.allowance 64
+allowed s = s.allowance
+
+-- whether there are fewer reports than it takes
+abbrev pub takes_more : Reports → Bool
+takes_more s = nat_lt (length (filed s)) (allowed s)
 
 -- the board with these zones that keeps its reports in this record
 abbrev pub board_of : (columns rows : ℕ) → List ℤ → Reports → Meaning
@@ -20,7 +24,3 @@ board_of c r zs s = record {
   reports = filed s;
   allowance = allowed s;
 }
-
--- a fact about every board that keeps its reports in a record
-abbrev pub OnAnyBoard : ((Reports → Meaning) → Type 0) → Type 0
-OnAnyBoard Fact = (columns rows : ℕ) (zones : List ℤ) → Fact (board_of columns rows zones)

@@ -1,15 +1,9 @@
--- The meaning of each kind of board that has zones of its own.
+-- The meaning of a board that has zones of its own.
+use Rattle.std.specs.Prelude.{ℕ, List, ℤ}
 use Rattle.boards.specs.Meaning.{Meaning}
 use Rattle.boards.specs.Kept.{board_of}
-use Rattle.boards.specs.Tile.{frame_zones}
-use Rattle.boards.specs.declared.stats.Stats.{Stats}
-use Rattle.boards.specs.declared.frame.Frame.{Frame}
+use Rattle.boards.specs.declared.measured.Measured.{Measured}
 
--- a statistics board's zones are the list that it was lent
-abbrev pub stats_meaning : Stats → Meaning
-stats_meaning s = board_of s.grid.columns s.grid.rows s.zones.now s.reports
-
--- a frame board's zones are the means of the tiles of its bytes
-abbrev pub frame_meaning : Frame → Meaning
-frame_meaning s =
-    board_of s.grid.columns s.grid.rows (frame_zones s.bytes.now s.grid.columns s.grid.rows) s.reports
+-- its zones are what its items make of a grid with its sides
+abbrev pub measured_meaning : {Z : Type 0} → (Z → (columns rows : ℕ) → List ℤ) → Measured Z → Meaning
+measured_meaning zones s = board_of s.grid.columns s.grid.rows (zones s.zones s.grid.columns s.grid.rows) s.reports

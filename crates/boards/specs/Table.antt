@@ -1,5 +1,5 @@
 -- Lists and sums given by a function of the number.
-use Rattle.std.specs.Prelude.{ℕ, zero, suc, ◌+◌, List, map}
+use Rattle.std.specs.Prelude.{ℕ, List, map, sum}
 use Rattle.std.specs.List.{range_with_len}
 
 -- f 0, f 1, .. f (n - 1)
@@ -8,5 +8,4 @@ table n f = map f (range_with_len 0 n)
 
 -- f 0 + f 1 + .. + f (n - 1)
 unfoldable pub sum_of : ℕ → (ℕ → ℕ) → ℕ
-sum_of zero f = 0
-sum_of (suc n) f = sum_of n f + f n
+sum_of n f = sum (table n f)

@@ -5,8 +5,6 @@ ghost use Rattle.boards.specs.Meaning.{zone_answer, report_answer, reported, kep
 ghost use Rattle.boards.specs.Crop.{Cropping, crop_meaning, Lower, numbered, zone_or0};
 
 use crate::board::Board;
-use crate::index::index;
-use crate::placeless::placeless;
 use crate::window::Window;
 use refusal::{Reason, Refusal};
 
@@ -24,6 +22,15 @@ pub struct RefusedCrop<B> {
     pub refusal: Refusal,
 }
 
+// Why the board could not be cropped.
+impl<B: Drop> From<RefusedCrop<B>> for Refusal {
+    ghost from_gives = { λ refused refusal. refusal ≡ refused.refusal };
+
+    fn from(refused: RefusedCrop<B>) -> Refusal {
+        refused.refusal
+    }
+}
+
 impl<B: Board> Crop<B> {
     // The part of `lower` that the window shows.
     pub fn new(lower: B, window: Window) -> Result<Crop<B>, RefusedCrop<B>>
@@ -34,7 +41,7 @@ impl<B: Board> Crop<B> {
         } else {
             Err(RefusedCrop {
                 lower,
-                refusal: placeless(Reason::CropOutside),
+                refusal: Reason::CropOutside.into(),
             })
         }
     }
@@ -55,12 +62,10 @@ fn zone_or_0<B: Board>(board: &mut B, number: Option<i32>) -> i32
     ensures value { (p : ℕ) → number ≡ numbered p → result ≡ zone_or0 (B.meaning board.old) p }
     ensures same { B.meaning board.new ≡ B.meaning board.old }
 {
-    let Some(i) = number else {
-        return 0;
-    };
-    match board.zone(i) {
-        Ok(value) => value,
-        Err(_) => 0,
+    // After a call of a closure that holds the board, nothing is proved of what the board means.
+    match number {
+        Some(i) => board.zone(i).unwrap_or(0),
+        None => 0,
     }
 }
 
@@ -80,7 +85,7 @@ impl<B: Board> Board for Crop<B> {
         ensures same { crop_meaning B.meaning self.new ≡ crop_meaning B.meaning self.old }
         ensures lower { Lower B.meaning self.old self.new (λ m. m) }
     {
-        let k = index(i, self.window.count())?;
+        let k = self.window.index(i)?;
         let place = self.window.place(self.lower.columns(), k);
         Ok(zone_or_0(&mut self.lower, place))
     }

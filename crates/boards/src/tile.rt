@@ -1,56 +1,58 @@
-// The mean of one tile of a frame.
+// The mean of one tile of a picture.
 ghost use Rattle.std.specs.Prelude.{◌≡◌, ◌+◌, ◌*◌, ◌<◌, ◌≤◌, slice_index};
-ghost use Rattle.boards.specs.Table.{sum_of};
-ghost use Rattle.boards.specs.Tile.{tile_pixel, tile_sum, tile_mean};
+
+use crate::grid::Grid;
 
 // The bytes of a tile's side.
 const SIDE: usize = 16;
 
 // The bytes of a tile.
-pub(crate) const AREA: usize = 256;
+pub(crate) const AREA: usize = SIDE * SIDE;
 
-// The sum of the 16 bytes from `start` on; those past the end count 0.
-fn line_sum(bytes: &[u8], start: usize) -> u32
-    ensures sum { result ≡ sum_of 16 (λ x. slice_index bytes.now (start + x)) }
-    ensures bound { result ≤ 16 * 255 }
-{
-    let from = start.min(bytes.len());
-    let to = from + (bytes.len() - from).min(SIDE);
-    let mut sum = 0;
-    for byte in &bytes[from..to] {
-        sum += u32::from(*byte);
+// Tile `number` of the picture that makes a grid.
+#[derive(Clone, Copy)]
+pub(crate) struct Tile<'a> {
+    pub(crate) bytes: &'a [u8],
+    pub(crate) grid: Grid,
+    pub(crate) number: u32,
+    ghost within: { number < grid.columns * grid.rows },
+}
+
+impl<'a> Tile<'a> {
+    ghost use Rattle.boards.specs.Table.{sum_of};
+    ghost use Rattle.boards.specs.Tile.{tile_pixel, tile_sum, tile_mean, line_sum};
+
+    // The mean, the fraction dropped.
+    pub(crate) fn mean(&self) -> i32
+        ensures { result ≡ tile_mean self.now.bytes.now self.now.grid.columns self.now.number }
+    {
+        (self.sum() / AREA as u32) as i32
     }
-    sum
-}
 
-// Where line `y` of tile `i` begins.
-fn line_start(columns: u8, i: u32, y: usize) -> usize
-    requires within { (i < columns * 256) × (y < 16) }
-    ensures { result ≡ tile_pixel columns i y 0 }
-{
-    let columns = usize::from(columns);
-    let i = i as usize;
-    let line = SIDE * (i / columns) + y;
-    line * (SIDE * columns) + SIDE * (i % columns)
-}
-
-// The sum of tile `i`.
-fn sum_of_tile(bytes: &[u8], columns: u8, i: u32) -> u32
-    requires within { i < columns * 256 }
-    ensures sum { result ≡ tile_sum bytes.now columns i }
-    ensures bound { result ≤ 256 * 255 }
-{
-    let mut sum = 0;
-    for y in 0..SIDE {
-        sum += line_sum(bytes, line_start(columns, i, y));
+    // The sum of the bytes.
+    fn sum(&self) -> u32
+        ensures { result ≡ tile_sum self.now.bytes.now self.now.grid.columns self.now.number }
+    {
+        (0..SIDE as u8).map(|y| u32::from(self.line_sum(y))).sum()
     }
-    sum
-}
 
-// The mean of tile `i`, the fraction dropped.
-pub(crate) fn mean_of_tile(bytes: &[u8], columns: u8, i: u32) -> i32
-    requires within { i < columns * 256 }
-    ensures { result ≡ tile_mean bytes.now columns i }
-{
-    (sum_of_tile(bytes, columns, i) / AREA as u32) as i32
+    // The sum of line `y`; bytes past the end count 0.
+    fn line_sum(&self, y: u8) -> u16
+        ensures { result ≡ line_sum self.now.bytes.now self.now.grid.columns self.now.number y }
+    {
+        // A slice, since `skip` takes each byte before the line one by one.
+        let start = self.line_start(y).min(self.bytes.len());
+        let line = self.bytes[start..].iter().take(SIDE);
+        line.map(|&byte| u16::from(byte)).sum()
+    }
+
+    // Where line `y` begins.
+    fn line_start(&self, y: u8) -> usize
+        ensures { result ≡ tile_pixel self.now.grid.columns self.now.number y 0 }
+    {
+        let columns = usize::from(self.grid.columns);
+        let number = self.number as usize;
+        let line = SIDE * (number / columns) + usize::from(y);
+        line * (SIDE * columns) + SIDE * (number % columns)
+    }
 }

@@ -1,9 +1,14 @@
 // A part of a board.
 ghost use Rattle.std.specs.Prelude.{◌≡◌, ◌*◌, ◌<◌};
+ghost use Rattle.refusal.specs.Told.{told};
+ghost use Rattle.boards.specs.Meaning.{index_answer};
 ghost use Rattle.boards.specs.Crop.{place_of, numbered, lies_in, joined_answer, CropOfCrop};
 
+use refusal::{Reason, Refusal};
+use std::fmt;
+
 // Where a part begins, and its sides.
-#[derive(Clone, Copy)]
+#[derive(Clone, Copy, PartialEq, Eq, Debug)]
 pub struct Window {
     pub left: u32,
     pub top: u32,
@@ -44,6 +49,15 @@ impl Window {
         u64::from(self.columns) * u64::from(self.rows)
     }
 
+    // `i` as the index of one of its zones.
+    pub(crate) fn index(self, i: i32) -> Result<u32, Refusal>
+        ensures { told result ≡ index_answer (self.columns * self.rows) i }
+    {
+        let index = u32::try_from(i).ok();
+        let index = index.filter(|&k| u64::from(k) < self.count());
+        index.ok_or(Reason::NoSuchZone.into())
+    }
+
     // The place of its zone `k` on a board with `across` columns, where an int can number it.
     pub(crate) fn place(self, across: u32, k: u32) -> Option<i32>
         requires { 0 < self.columns }
@@ -54,9 +68,24 @@ impl Window {
             .saturating_mul(u64::from(across))
             .saturating_add(u64::from(self.left));
         let place = start.saturating_add(u64::from(k % self.columns));
-        if place > i32::MAX as u64 {
-            return None;
-        }
-        Some(place as i32)
+        i32::try_from(place).ok()
+    }
+}
+
+// Its sides, and where it begins.
+impl fmt::Display for Window {
+    ghost use Rattle.std.specs.Prelude.{Some};
+    ghost use Rattle.boards.specs.Crop.{text_of};
+
+    ghost output = { λ window. Some (text_of window) };
+
+    fn fmt<W: fmt::Write>(&self, f: &mut fmt::Formatter<W>) -> fmt::Result {
+        let Window {
+            left,
+            top,
+            columns,
+            rows,
+        } = *self;
+        write!(f, "{columns} x {rows} at ({left}, {top})")
     }
 }

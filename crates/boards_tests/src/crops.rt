@@ -28,10 +28,7 @@ fn crop(window: Window) -> u8 {
     let Ok(board) = Stats::new(4, 3, &ZONES, 2) else {
         return 255;
     };
-    match Crop::new(board, window) {
-        Ok(_) => 0,
-        Err(e) => e.refusal.reason.number(),
-    }
+    refused(Crop::new(board, window))
 }
 
 #[test]
@@ -72,30 +69,20 @@ fn refused_crop_gives_the_board_back(rt: HostRuntime) -> Result<(), Fail> {
 
 // The crop of 2 x 2 zones at (1, 1) of the crop of 3 x 3 zones at (1, 0).
 fn crop_of_a_crop() -> Result<Crop<Crop<Stats<'static>>>, Fail> {
-    let board = answer(Stats::new(4, 3, &ZONES, 2))?;
-    let Ok(outer) = Crop::new(
-        board,
-        Window {
-            left: 1,
-            top: 0,
-            columns: 3,
-            rows: 3,
-        },
-    ) else {
-        return Err(Fail::new("outer"));
+    let outer = Window {
+        left: 1,
+        top: 0,
+        columns: 3,
+        rows: 3,
     };
-    match Crop::new(
-        outer,
-        Window {
-            left: 1,
-            top: 1,
-            columns: 2,
-            rows: 2,
-        },
-    ) {
-        Ok(inner) => Ok(inner),
-        Err(_) => Err(Fail::new("inner")),
-    }
+    let inner = Window {
+        left: 1,
+        top: 1,
+        columns: 2,
+        rows: 2,
+    };
+    let board = answer(Stats::new(4, 3, &ZONES, 2))?;
+    answer(Crop::new(answer(Crop::new(board, outer))?, inner))
 }
 
 #[test]

@@ -3,17 +3,22 @@ use refusal::Refusal;
 use std::test::Fail;
 
 // The refusal's number, 0 for an answer.
-pub(crate) fn refused<T: Drop>(said: Result<T, Refusal>) -> u8 {
+pub(crate) fn refused<T: Drop, E: Into<Refusal>>(said: Result<T, E>) -> u8 {
     match said {
         Ok(_) => 0,
-        Err(refusal) => refusal.reason.number(),
+        Err(error) => number(error),
     }
 }
 
 // The answer; a refusal fails the test.
-pub(crate) fn answer<T>(said: Result<T, Refusal>) -> Result<T, Fail> {
+pub(crate) fn answer<T, E: Into<Refusal>>(said: Result<T, E>) -> Result<T, Fail> {
     match said {
         Ok(value) => Ok(value),
-        Err(refusal) => Err(Fail::new(refusal.reason.number())),
+        Err(error) => Err(Fail::new(number(error))),
     }
+}
+
+fn number<E: Into<Refusal>>(error: E) -> u8 {
+    let refusal: Refusal = error.into();
+    refusal.reason.number()
 }

@@ -2,27 +2,18 @@
 use boards::RefusedCrop;
 use refusal::Refusal;
 use std::io;
+use thiserror::Error;
 
-#[derive(Drop)]
+#[derive(Debug, Drop, Error)]
 pub enum Fault {
-    Output(io::Error),
-    Refused(Refusal),
-}
-
-impl From<io::Error> for Fault {
-    fn from(error: io::Error) -> Fault {
-        Fault::Output(error)
-    }
-}
-
-impl From<Refusal> for Fault {
-    fn from(refusal: Refusal) -> Fault {
-        Fault::Refused(refusal)
-    }
+    #[error("{0}")]
+    Output(#[from] io::Error),
+    #[error("{0}")]
+    Refused(#[from] Refusal),
 }
 
 impl<B: Drop> From<RefusedCrop<B>> for Fault {
     fn from(refused: RefusedCrop<B>) -> Fault {
-        Fault::Refused(refused.refusal)
+        Fault::Refused(refused.into())
     }
 }

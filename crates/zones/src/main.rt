@@ -39,25 +39,14 @@ const INNER: Window = Window {
     rows: 2,
 };
 
-// Says what a window is before the table that it shows.
-fn announce(rt: &HostRuntime, what: &str, window: Window) -> io::Result<()> {
-    let Window {
-        left,
-        top,
-        columns,
-        rows,
-    } = window;
-    println!(rt; "{what}: {columns} x {rows} at ({left}, {top})")
-}
-
 // Tries a crop that reaches outside, and gives the frame back as it came.
 fn try_outside<'a>(rt: &HostRuntime, frame: Frame<'a>) -> Result<Frame<'a>, Fault> {
-    announce(rt, "crop", OUTSIDE)?;
+    println!(rt; "crop: {OUTSIDE}")?;
     match Crop::new(frame, OUTSIDE) {
         Ok(crop) => Ok(crop.into_lower()),
         Err(refused) => {
-            let number = refused.refusal.reason.number();
-            println!(rt; "refused {number}")?;
+            let reason = refused.refusal.reason;
+            println!(rt; "refused {reason}")?;
             Ok(refused.lower)
         }
     }
@@ -68,25 +57,22 @@ fn run(rt: &HostRuntime, bytes: &[u8]) -> Result<(), Fault> {
     println!(rt; "frame: {COLUMNS} x {ROWS}")?;
     print_table(rt, &mut frame)?;
     let frame = try_outside(rt, frame)?;
-    announce(rt, "crop", OUTER)?;
+    println!(rt; "crop: {OUTER}")?;
     let mut crop = Crop::new(frame, OUTER)?;
     print_table(rt, &mut crop)?;
-    announce(rt, "crop of the crop", INNER)?;
+    println!(rt; "crop of the crop: {INNER}")?;
     let mut part = Crop::new(crop, INNER)?;
     print_table(rt, &mut part)?;
     file_zones(rt, &mut part)?;
     let mut frame = part.into_lower().into_lower();
     println!(rt; "kept by the frame")?;
     print_kept(rt, &mut frame)?;
-    match INNER.through(OUTER) {
-        None => Ok(()),
-        Some(window) => {
-            announce(rt, "the same as one crop", window)?;
-            let mut once = Crop::new(frame, window)?;
-            print_table(rt, &mut once)?;
-            Ok(())
-        }
+    if let Some(window) = INNER.through(OUTER) {
+        println!(rt; "the same as one crop: {window}")?;
+        let mut once = Crop::new(frame, window)?;
+        print_table(rt, &mut once)?;
     }
+    Ok(())
 }
 
 fn main(rt: HostRuntime) -> io::Result<()> {
@@ -95,10 +81,6 @@ fn main(rt: HostRuntime) -> io::Result<()> {
     match run(&rt, &bytes) {
         Ok(()) => Ok(()),
         Err(Fault::Output(error)) => Err(error),
-        Err(Fault::Refused(refusal)) => {
-            let number = refusal.reason.number();
-            let place = refusal.place;
-            println!(rt; "refused {number} {place}")
-        }
+        Err(Fault::Refused(refusal)) => println!(rt; "{refusal}"),
     }
 }
