@@ -1,3 +1,2 @@
 pub mod Tags
-pub mod Within
 pub mod Bytes

@@ -1,9 +1,10 @@
 -- The kind of the token at a place, as code sees it.
-use Rattle.std.proofs.Common.{◌≡◌, ℕ, ◌<◌, ◌≤◌, List, length, get_or, None, sym, refl, ap, drop_of_length-le, drop-cons}
+use Rattle.std.specs.Option.{option_eq}
+use Rattle.std.proofs.Common.{◌≡◌, ℕ, ◌<◌, ◌≤◌, List, length, get_or, Option, Some, None, sym, refl, ap, drop_of_length-le, drop-cons}
 use Rattle.lexer.specs.declared.kind.Kind.{Kind}
 use Rattle.lexer.specs.declared.kind.Kind.TheVariants as Kinds
 use Rattle.lexer.specs.declared.kind.Token.{Token}
-use Rattle.lookahead.specs.Seen.{code, kind_of, first_kind, seen}
+use Rattle.lookahead.specs.Seen.{code, is_kind, kind_of, first_kind, seen}
 
 pub seen_at : (ts : List Token) (at : ℕ) (d : Token) → at < length ts → kind_of (get_or ts at d) ≡ seen ts at
 seen_at ts at d h = ap first_kind (sym (drop-cons ts at d h))
@@ -62,3 +63,8 @@ tag_code Kinds.OpenBrace = refl
 tag_code Kinds.CloseBrace = refl
 tag_code Kinds.Comma = refl
 tag_code Kinds.Semicolon = refl
+
+-- what `==` of a kind that may be there and one that is there gives
+pub same_kind : (o : Option Kind) (k : Kind) → option_eq Rattle.lexer.specs.contracts.kind.KindPartialEq.TheImpl.eq-value.it o (Some k) ≡ is_kind o k
+same_kind None k = refl
+same_kind (Some f) k = rw (sym (tag_code f), sym (tag_code k)) refl

@@ -1,5 +1,5 @@
 -- The kind of the token at a place in the list, as the grammar sees it.
-use Rattle.std.specs.Prelude.{ℕ, zero, suc, ◌+◌, ◌<◌, Bool, true, false, cond, ◌&&◌, ◌||◌, List, [], ◌∷◌, take, drop, ℤ, pos, negsuc, Some, None, Option, ◌==◌}
+use Rattle.std.specs.Prelude.{ℕ, zero, suc, ◌+◌, Bool, true, false, cond, ◌&&◌, ◌||◌, List, [], ◌∷◌, take, drop, ℤ, pos, negsuc, Some, None, Option, ◌==◌}
 use Rattle.lexer.specs.declared.kind.Kind.{Kind}
 use Rattle.lexer.specs.declared.kind.Kind.TheVariants as K
 use Rattle.lexer.specs.declared.kind.Token.{Token}
@@ -133,191 +133,169 @@ first_kind (t ∷ ts) = kind_of t
 abbrev pub seen : List Token → ℕ → Option Kind
 seen ts at = first_kind (drop at ts)
 
--- how an operand begins with a kind of token
-abbrev pub start_of : Option Kind → Start
-start_of None = S.Nothing
-start_of (Some K.Name) = S.Name
-start_of (Some K.Number) = S.Constant
-start_of (Some K.Character) = S.Constant
-start_of (Some K.Bool) = S.Nothing
-start_of (Some K.Char) = S.Nothing
-start_of (Some K.Int) = S.Nothing
-start_of (Some K.Float) = S.Nothing
-start_of (Some K.Void) = S.Nothing
-start_of (Some K.Extern) = S.Nothing
-start_of (Some K.Static) = S.Nothing
-start_of (Some K.If) = S.Nothing
-start_of (Some K.Else) = S.Nothing
-start_of (Some K.While) = S.Nothing
-start_of (Some K.Do) = S.Nothing
-start_of (Some K.For) = S.Nothing
-start_of (Some K.To) = S.Nothing
-start_of (Some K.Break) = S.Nothing
-start_of (Some K.Continue) = S.Nothing
-start_of (Some K.Return) = S.Nothing
-start_of (Some K.True) = S.Constant
-start_of (Some K.False) = S.Constant
-start_of (Some K.Plus) = S.Nothing
-start_of (Some K.Minus) = S.Prefix
-start_of (Some K.Star) = S.Nothing
-start_of (Some K.Slash) = S.Nothing
-start_of (Some K.Percent) = S.Nothing
-start_of (Some K.Assign) = S.Nothing
-start_of (Some K.Equal) = S.Nothing
-start_of (Some K.NotEqual) = S.Nothing
-start_of (Some K.Not) = S.Prefix
-start_of (Some K.Less) = S.Nothing
-start_of (Some K.LessEqual) = S.Nothing
-start_of (Some K.Greater) = S.Nothing
-start_of (Some K.GreaterEqual) = S.Nothing
-start_of (Some K.And) = S.Nothing
-start_of (Some K.Or) = S.Nothing
-start_of (Some K.PlusAssign) = S.Nothing
-start_of (Some K.MinusAssign) = S.Nothing
-start_of (Some K.StarAssign) = S.Nothing
-start_of (Some K.SlashAssign) = S.Nothing
-start_of (Some K.PercentAssign) = S.Nothing
-start_of (Some K.AndAssign) = S.Nothing
-start_of (Some K.OrAssign) = S.Nothing
-start_of (Some K.OpenParen) = S.Bracket
-start_of (Some K.CloseParen) = S.Nothing
-start_of (Some K.OpenBrace) = S.Nothing
-start_of (Some K.CloseBrace) = S.Nothing
-start_of (Some K.Comma) = S.Nothing
-start_of (Some K.Semicolon) = S.Nothing
+-- how an operand begins with a kind of token, if one does
+abbrev pub start_of : Option Kind → Option Start
+start_of None = None
+start_of (Some K.Name) = Some S.Name
+start_of (Some K.Number) = Some S.Constant
+start_of (Some K.Character) = Some S.Constant
+start_of (Some K.Bool) = None
+start_of (Some K.Char) = None
+start_of (Some K.Int) = None
+start_of (Some K.Float) = None
+start_of (Some K.Void) = None
+start_of (Some K.Extern) = None
+start_of (Some K.Static) = None
+start_of (Some K.If) = None
+start_of (Some K.Else) = None
+start_of (Some K.While) = None
+start_of (Some K.Do) = None
+start_of (Some K.For) = None
+start_of (Some K.To) = None
+start_of (Some K.Break) = None
+start_of (Some K.Continue) = None
+start_of (Some K.Return) = None
+start_of (Some K.True) = Some S.Constant
+start_of (Some K.False) = Some S.Constant
+start_of (Some K.Plus) = None
+start_of (Some K.Minus) = Some S.Prefix
+start_of (Some K.Star) = None
+start_of (Some K.Slash) = None
+start_of (Some K.Percent) = None
+start_of (Some K.Assign) = None
+start_of (Some K.Equal) = None
+start_of (Some K.NotEqual) = None
+start_of (Some K.Not) = Some S.Prefix
+start_of (Some K.Less) = None
+start_of (Some K.LessEqual) = None
+start_of (Some K.Greater) = None
+start_of (Some K.GreaterEqual) = None
+start_of (Some K.And) = None
+start_of (Some K.Or) = None
+start_of (Some K.PlusAssign) = None
+start_of (Some K.MinusAssign) = None
+start_of (Some K.StarAssign) = None
+start_of (Some K.SlashAssign) = None
+start_of (Some K.PercentAssign) = None
+start_of (Some K.AndAssign) = None
+start_of (Some K.OrAssign) = None
+start_of (Some K.OpenParen) = Some S.Bracket
+start_of (Some K.CloseParen) = None
+start_of (Some K.OpenBrace) = None
+start_of (Some K.CloseBrace) = None
+start_of (Some K.Comma) = None
+start_of (Some K.Semicolon) = None
 
--- how loosely an operator binds; 0 for what is none
-abbrev pub looseness_of : Option Kind → ℕ
-looseness_of None = 0
-looseness_of (Some K.Name) = 0
-looseness_of (Some K.Number) = 0
-looseness_of (Some K.Character) = 0
-looseness_of (Some K.Bool) = 0
-looseness_of (Some K.Char) = 0
-looseness_of (Some K.Int) = 0
-looseness_of (Some K.Float) = 0
-looseness_of (Some K.Void) = 0
-looseness_of (Some K.Extern) = 0
-looseness_of (Some K.Static) = 0
-looseness_of (Some K.If) = 0
-looseness_of (Some K.Else) = 0
-looseness_of (Some K.While) = 0
-looseness_of (Some K.Do) = 0
-looseness_of (Some K.For) = 0
-looseness_of (Some K.To) = 0
-looseness_of (Some K.Break) = 0
-looseness_of (Some K.Continue) = 0
-looseness_of (Some K.Return) = 0
-looseness_of (Some K.True) = 0
-looseness_of (Some K.False) = 0
-looseness_of (Some K.Plus) = 2
-looseness_of (Some K.Minus) = 2
-looseness_of (Some K.Star) = 1
-looseness_of (Some K.Slash) = 1
-looseness_of (Some K.Percent) = 1
-looseness_of (Some K.Assign) = 0
-looseness_of (Some K.Equal) = 4
-looseness_of (Some K.NotEqual) = 4
-looseness_of (Some K.Not) = 0
-looseness_of (Some K.Less) = 3
-looseness_of (Some K.LessEqual) = 3
-looseness_of (Some K.Greater) = 3
-looseness_of (Some K.GreaterEqual) = 3
-looseness_of (Some K.And) = 5
-looseness_of (Some K.Or) = 6
-looseness_of (Some K.PlusAssign) = 0
-looseness_of (Some K.MinusAssign) = 0
-looseness_of (Some K.StarAssign) = 0
-looseness_of (Some K.SlashAssign) = 0
-looseness_of (Some K.PercentAssign) = 0
-looseness_of (Some K.AndAssign) = 0
-looseness_of (Some K.OrAssign) = 0
-looseness_of (Some K.OpenParen) = 0
-looseness_of (Some K.CloseParen) = 0
-looseness_of (Some K.OpenBrace) = 0
-looseness_of (Some K.CloseBrace) = 0
-looseness_of (Some K.Comma) = 0
-looseness_of (Some K.Semicolon) = 0
+-- how loosely an operator binds, if it is one that takes two operands
+abbrev pub looseness_of : Option Kind → Option ℕ
+looseness_of None = None
+looseness_of (Some K.Name) = None
+looseness_of (Some K.Number) = None
+looseness_of (Some K.Character) = None
+looseness_of (Some K.Bool) = None
+looseness_of (Some K.Char) = None
+looseness_of (Some K.Int) = None
+looseness_of (Some K.Float) = None
+looseness_of (Some K.Void) = None
+looseness_of (Some K.Extern) = None
+looseness_of (Some K.Static) = None
+looseness_of (Some K.If) = None
+looseness_of (Some K.Else) = None
+looseness_of (Some K.While) = None
+looseness_of (Some K.Do) = None
+looseness_of (Some K.For) = None
+looseness_of (Some K.To) = None
+looseness_of (Some K.Break) = None
+looseness_of (Some K.Continue) = None
+looseness_of (Some K.Return) = None
+looseness_of (Some K.True) = None
+looseness_of (Some K.False) = None
+looseness_of (Some K.Plus) = Some 2
+looseness_of (Some K.Minus) = Some 2
+looseness_of (Some K.Star) = Some 1
+looseness_of (Some K.Slash) = Some 1
+looseness_of (Some K.Percent) = Some 1
+looseness_of (Some K.Assign) = None
+looseness_of (Some K.Equal) = Some 4
+looseness_of (Some K.NotEqual) = Some 4
+looseness_of (Some K.Not) = None
+looseness_of (Some K.Less) = Some 3
+looseness_of (Some K.LessEqual) = Some 3
+looseness_of (Some K.Greater) = Some 3
+looseness_of (Some K.GreaterEqual) = Some 3
+looseness_of (Some K.And) = Some 5
+looseness_of (Some K.Or) = Some 6
+looseness_of (Some K.PlusAssign) = None
+looseness_of (Some K.MinusAssign) = None
+looseness_of (Some K.StarAssign) = None
+looseness_of (Some K.SlashAssign) = None
+looseness_of (Some K.PercentAssign) = None
+looseness_of (Some K.AndAssign) = None
+looseness_of (Some K.OrAssign) = None
+looseness_of (Some K.OpenParen) = None
+looseness_of (Some K.CloseParen) = None
+looseness_of (Some K.OpenBrace) = None
+looseness_of (Some K.CloseBrace) = None
+looseness_of (Some K.Comma) = None
+looseness_of (Some K.Semicolon) = None
 
 -- whether a token of the kind is there
 abbrev pub is_kind : Option Kind → Kind → Bool
 is_kind None k = false
 is_kind (Some f) k = code f == code k
 
--- what begins an operand stands within the list
-abbrev pub Inside : Start → ℕ → ℕ → Type 0
-Inside S.Name at n = at < n
-Inside S.Constant at n = at < n
-Inside S.Prefix at n = at < n
-Inside S.Bracket at n = at < n
-Inside S.Nothing at n = Unit {0}
-
--- how a statement begins with a kind of token
-abbrev pub lead_of : Option Kind → Lead
-lead_of None = L.Nothing
-lead_of (Some K.Name) = L.Name
-lead_of (Some K.Number) = L.Expression
-lead_of (Some K.Character) = L.Expression
-lead_of (Some K.Bool) = L.Definition
-lead_of (Some K.Char) = L.Definition
-lead_of (Some K.Int) = L.Definition
-lead_of (Some K.Float) = L.Nothing
-lead_of (Some K.Void) = L.Nothing
-lead_of (Some K.Extern) = L.Nothing
-lead_of (Some K.Static) = L.Nothing
-lead_of (Some K.If) = L.If
-lead_of (Some K.Else) = L.Nothing
-lead_of (Some K.While) = L.While
-lead_of (Some K.Do) = L.Do
-lead_of (Some K.For) = L.For
-lead_of (Some K.To) = L.Nothing
-lead_of (Some K.Break) = L.Jump
-lead_of (Some K.Continue) = L.Jump
-lead_of (Some K.Return) = L.Return
-lead_of (Some K.True) = L.Expression
-lead_of (Some K.False) = L.Expression
-lead_of (Some K.Plus) = L.Nothing
-lead_of (Some K.Minus) = L.Expression
-lead_of (Some K.Star) = L.Nothing
-lead_of (Some K.Slash) = L.Nothing
-lead_of (Some K.Percent) = L.Nothing
-lead_of (Some K.Assign) = L.Nothing
-lead_of (Some K.Equal) = L.Nothing
-lead_of (Some K.NotEqual) = L.Nothing
-lead_of (Some K.Not) = L.Expression
-lead_of (Some K.Less) = L.Nothing
-lead_of (Some K.LessEqual) = L.Nothing
-lead_of (Some K.Greater) = L.Nothing
-lead_of (Some K.GreaterEqual) = L.Nothing
-lead_of (Some K.And) = L.Nothing
-lead_of (Some K.Or) = L.Nothing
-lead_of (Some K.PlusAssign) = L.Nothing
-lead_of (Some K.MinusAssign) = L.Nothing
-lead_of (Some K.StarAssign) = L.Nothing
-lead_of (Some K.SlashAssign) = L.Nothing
-lead_of (Some K.PercentAssign) = L.Nothing
-lead_of (Some K.AndAssign) = L.Nothing
-lead_of (Some K.OrAssign) = L.Nothing
-lead_of (Some K.OpenParen) = L.Expression
-lead_of (Some K.CloseParen) = L.Nothing
-lead_of (Some K.OpenBrace) = L.Block
-lead_of (Some K.CloseBrace) = L.Nothing
-lead_of (Some K.Comma) = L.Nothing
-lead_of (Some K.Semicolon) = L.Nothing
-
--- what begins a statement stands within the list
-abbrev pub InsideLead : Lead → ℕ → ℕ → Type 0
-InsideLead L.Block at n = at < n
-InsideLead L.Definition at n = at < n
-InsideLead L.Name at n = at < n
-InsideLead L.If at n = at < n
-InsideLead L.While at n = at < n
-InsideLead L.Do at n = at < n
-InsideLead L.For at n = at < n
-InsideLead L.Jump at n = at < n
-InsideLead L.Return at n = at < n
-InsideLead L.Expression at n = at < n
-InsideLead L.Nothing at n = Unit {0}
+-- how a statement begins with a kind of token, if one does
+abbrev pub lead_of : Option Kind → Option Lead
+lead_of None = None
+lead_of (Some K.Name) = Some L.Name
+lead_of (Some K.Number) = Some L.Expression
+lead_of (Some K.Character) = Some L.Expression
+lead_of (Some K.Bool) = Some L.Definition
+lead_of (Some K.Char) = Some L.Definition
+lead_of (Some K.Int) = Some L.Definition
+lead_of (Some K.Float) = None
+lead_of (Some K.Void) = None
+lead_of (Some K.Extern) = None
+lead_of (Some K.Static) = None
+lead_of (Some K.If) = Some L.If
+lead_of (Some K.Else) = None
+lead_of (Some K.While) = Some L.While
+lead_of (Some K.Do) = Some L.Do
+lead_of (Some K.For) = Some L.For
+lead_of (Some K.To) = None
+lead_of (Some K.Break) = Some L.Jump
+lead_of (Some K.Continue) = Some L.Jump
+lead_of (Some K.Return) = Some L.Return
+lead_of (Some K.True) = Some L.Expression
+lead_of (Some K.False) = Some L.Expression
+lead_of (Some K.Plus) = None
+lead_of (Some K.Minus) = Some L.Expression
+lead_of (Some K.Star) = None
+lead_of (Some K.Slash) = None
+lead_of (Some K.Percent) = None
+lead_of (Some K.Assign) = None
+lead_of (Some K.Equal) = None
+lead_of (Some K.NotEqual) = None
+lead_of (Some K.Not) = Some L.Expression
+lead_of (Some K.Less) = None
+lead_of (Some K.LessEqual) = None
+lead_of (Some K.Greater) = None
+lead_of (Some K.GreaterEqual) = None
+lead_of (Some K.And) = None
+lead_of (Some K.Or) = None
+lead_of (Some K.PlusAssign) = None
+lead_of (Some K.MinusAssign) = None
+lead_of (Some K.StarAssign) = None
+lead_of (Some K.SlashAssign) = None
+lead_of (Some K.PercentAssign) = None
+lead_of (Some K.AndAssign) = None
+lead_of (Some K.OrAssign) = None
+lead_of (Some K.OpenParen) = Some L.Expression
+lead_of (Some K.CloseParen) = None
+lead_of (Some K.OpenBrace) = Some L.Block
+lead_of (Some K.CloseBrace) = None
+lead_of (Some K.Comma) = None
+lead_of (Some K.Semicolon) = None
 
 -- whether an assignment goes on with a kind of token
 abbrev pub assigns_of : Option Kind → Bool
@@ -549,3 +527,7 @@ abbrev pub past_main : List ℕ → List Token → ℕ → Option ℕ
 past_main s ts i =
     cond (is_kind (seen ts (past_static ts i)) K.Int && (is_main s ts (past_static ts i + 1) && is_kind (seen ts (past_static ts i + 2)) K.OpenParen))
     (Some (past_static ts i + 3)) None
+
+-- a record that is not filled
+abbrev pub empty_token : Token
+empty_token = record { kind = K.Name; place = 0; length = 0; value = pos 0 }

@@ -1,66 +1,22 @@
 // What kinds of token are to the grammar.
-ghost use Rattle.std.specs.Prelude.{◌≡◌, ◌<◌, true, length};
-ghost use Rattle.lookahead.specs.Seen.{seen, start_of, looseness_of, Inside, lead_of, InsideLead, assigns_of, is_scalar, is_result, is_constant};
+ghost use Rattle.std.specs.Prelude.{◌≡◌, ◌<◌, true, length, is_some};
+ghost use Rattle.lookahead.specs.Seen.{seen, start_of, looseness_of, lead_of, assigns_of, is_scalar, is_result, is_constant};
 
-use crate::kinds::kind_at;
-use lexer::{Kind, Token};
+use crate::text::Text;
+use lexer::Kind;
 
 // How an operand begins.
-#[derive(Clone, Copy)]
+#[derive(Clone, Copy, PartialEq, Eq, Debug)]
 pub enum Start {
     Name,
     Constant,
     // A minus or a `!`.
     Prefix,
     Bracket,
-    Nothing,
-}
-
-fn start_of(kind: Option<Kind>) -> Start
-    ensures { result ≡ start_of kind }
-{
-    match kind {
-        Some(Kind::Name) => Start::Name,
-        Some(Kind::Number | Kind::Character | Kind::True | Kind::False) => Start::Constant,
-        Some(Kind::Minus | Kind::Not) => Start::Prefix,
-        Some(Kind::OpenParen) => Start::Bracket,
-        _ => Start::Nothing,
-    }
-}
-
-// How loosely an operator that takes two operands binds, from 1; 0 for what is no such operator.
-fn looseness_of(kind: Option<Kind>) -> u32
-    ensures { result ≡ looseness_of kind }
-{
-    match kind {
-        Some(Kind::Star | Kind::Slash | Kind::Percent) => 1,
-        Some(Kind::Plus | Kind::Minus) => 2,
-        Some(Kind::Less | Kind::LessEqual | Kind::Greater | Kind::GreaterEqual) => 3,
-        Some(Kind::Equal | Kind::NotEqual) => 4,
-        Some(Kind::And) => 5,
-        Some(Kind::Or) => 6,
-        _ => 0,
-    }
-}
-
-// How an operand begins at `at`.
-pub fn start_at(tokens: &[Token], at: usize) -> Start
-    ensures same { result ≡ start_of (seen tokens.now at) }
-    ensures inside { Inside result at (length tokens.now) }
-{
-    start_of(kind_at(tokens, at))
-}
-
-// How loosely the operator at `at` binds; 0 where none stands.
-pub fn looseness_at(tokens: &[Token], at: usize) -> u32
-    ensures same { result ≡ looseness_of (seen tokens.now at) }
-    ensures inside { 0 < result → at < length tokens.now }
-{
-    looseness_of(kind_at(tokens, at))
 }
 
 // How a statement begins.
-#[derive(Clone, Copy)]
+#[derive(Clone, Copy, PartialEq, Eq, Debug)]
 pub enum Lead {
     Block,
     Definition,
@@ -74,116 +30,132 @@ pub enum Lead {
     Return,
     // An expression that does not begin with a name.
     Expression,
-    Nothing,
 }
 
-fn lead_of(kind: Option<Kind>) -> Lead
+fn start_of(kind: Option<Kind>) -> Option<Start>
+    ensures { result ≡ start_of kind }
+{
+    match kind? {
+        Kind::Name => Some(Start::Name),
+        Kind::Number | Kind::Character | Kind::True | Kind::False => Some(Start::Constant),
+        Kind::Minus | Kind::Not => Some(Start::Prefix),
+        Kind::OpenParen => Some(Start::Bracket),
+        _ => None,
+    }
+}
+
+fn looseness_of(kind: Option<Kind>) -> Option<u32>
+    ensures { result ≡ looseness_of kind }
+{
+    match kind? {
+        Kind::Star | Kind::Slash | Kind::Percent => Some(1),
+        Kind::Plus | Kind::Minus => Some(2),
+        Kind::Less | Kind::LessEqual | Kind::Greater | Kind::GreaterEqual => Some(3),
+        Kind::Equal | Kind::NotEqual => Some(4),
+        Kind::And => Some(5),
+        Kind::Or => Some(6),
+        _ => None,
+    }
+}
+
+fn lead_of(kind: Option<Kind>) -> Option<Lead>
     ensures { result ≡ lead_of kind }
 {
-    match kind {
-        Some(Kind::OpenBrace) => Lead::Block,
-        Some(Kind::Bool | Kind::Char | Kind::Int) => Lead::Definition,
-        Some(Kind::Name) => Lead::Name,
-        Some(Kind::If) => Lead::If,
-        Some(Kind::While) => Lead::While,
-        Some(Kind::Do) => Lead::Do,
-        Some(Kind::For) => Lead::For,
-        Some(Kind::Break | Kind::Continue) => Lead::Jump,
-        Some(Kind::Return) => Lead::Return,
-        Some(
-            Kind::Number
-            | Kind::Character
-            | Kind::True
-            | Kind::False
-            | Kind::Minus
-            | Kind::Not
-            | Kind::OpenParen,
-        ) => Lead::Expression,
-        _ => Lead::Nothing,
+    match kind? {
+        Kind::OpenBrace => Some(Lead::Block),
+        Kind::Bool | Kind::Char | Kind::Int => Some(Lead::Definition),
+        Kind::Name => Some(Lead::Name),
+        Kind::If => Some(Lead::If),
+        Kind::While => Some(Lead::While),
+        Kind::Do => Some(Lead::Do),
+        Kind::For => Some(Lead::For),
+        Kind::Break | Kind::Continue => Some(Lead::Jump),
+        Kind::Return => Some(Lead::Return),
+        Kind::Number
+        | Kind::Character
+        | Kind::True
+        | Kind::False
+        | Kind::Minus
+        | Kind::Not
+        | Kind::OpenParen => Some(Lead::Expression),
+        _ => None,
     }
 }
 
-// How a statement begins at `at`.
-pub fn lead_at(tokens: &[Token], at: usize) -> Lead
-    ensures same { result ≡ lead_of (seen tokens.now at) }
-    ensures inside { InsideLead result at (length tokens.now) }
-{
-    lead_of(kind_at(tokens, at))
-}
-
-fn assigns(kind: Option<Kind>) -> bool
-    ensures { result ≡ assigns_of kind }
-{
-    match kind {
-        Some(
-            Kind::Assign
-            | Kind::PlusAssign
-            | Kind::MinusAssign
-            | Kind::StarAssign
-            | Kind::SlashAssign
-            | Kind::PercentAssign
-            | Kind::AndAssign
-            | Kind::OrAssign,
-        ) => true,
-        _ => false,
+impl<'a> Text<'a> {
+    // How an operand begins at `at`, if one does.
+    pub fn start_at(&self, at: usize) -> Option<Start>
+        ensures same { result ≡ start_of (seen self.now.tokens.now at) }
+        ensures inside { is_some result ≡ true → at < length self.now.tokens.now }
+    {
+        start_of(self.kind_at(at))
     }
-}
 
-// Whether the token at `at` assigns to the name before it, plainly or by an operator.
-pub fn assigns_at(tokens: &[Token], at: usize) -> bool
-    ensures same { result ≡ assigns_of (seen tokens.now at) }
-    ensures inside { result ≡ true → at < length tokens.now }
-{
-    assigns(kind_at(tokens, at))
-}
-
-fn scalar(kind: Option<Kind>) -> bool
-    ensures { result ≡ is_scalar kind }
-{
-    match kind {
-        Some(Kind::Bool | Kind::Char | Kind::Int) => true,
-        _ => false,
+    // How loosely the operator at `at` binds, from 1, if one that takes two operands stands there.
+    pub fn looseness_at(&self, at: usize) -> Option<u32>
+        ensures same { result ≡ looseness_of (seen self.now.tokens.now at) }
+        ensures inside { is_some result ≡ true → at < length self.now.tokens.now }
+    {
+        looseness_of(self.kind_at(at))
     }
-}
 
-// Whether the token at `at` is a type.
-pub fn scalar_at(tokens: &[Token], at: usize) -> bool
-    ensures same { result ≡ is_scalar (seen tokens.now at) }
-    ensures inside { result ≡ true → at < length tokens.now }
-{
-    scalar(kind_at(tokens, at))
-}
-
-fn result(kind: Option<Kind>) -> bool
-    ensures { result ≡ is_result kind }
-{
-    match kind {
-        Some(Kind::Bool | Kind::Char | Kind::Int | Kind::Void) => true,
-        _ => false,
+    // How a statement begins at `at`, if one does.
+    pub fn lead_at(&self, at: usize) -> Option<Lead>
+        ensures same { result ≡ lead_of (seen self.now.tokens.now at) }
+        ensures inside { is_some result ≡ true → at < length self.now.tokens.now }
+    {
+        lead_of(self.kind_at(at))
     }
-}
 
-// Whether the token at `at` says what an extern gives.
-pub fn result_at(tokens: &[Token], at: usize) -> bool
-    ensures same { result ≡ is_result (seen tokens.now at) }
-    ensures inside { result ≡ true → at < length tokens.now }
-{
-    result(kind_at(tokens, at))
-}
+    // Each of the next four asks for kinds of its own; one function over a set would only move the sets to its callers.
 
-fn constant(kind: Option<Kind>) -> bool
-    ensures { result ≡ is_constant kind }
-{
-    match kind {
-        Some(Kind::Number | Kind::Character | Kind::True | Kind::False) => true,
-        _ => false,
+    // Whether the token at `at` assigns to the name before it, plainly or by an operator.
+    pub fn assigns_at(&self, at: usize) -> bool
+        ensures same { result ≡ assigns_of (seen self.now.tokens.now at) }
+        ensures inside { result ≡ true → at < length self.now.tokens.now }
+    {
+        matches!(
+            self.kind_at(at),
+            Some(
+                Kind::Assign
+                    | Kind::PlusAssign
+                    | Kind::MinusAssign
+                    | Kind::StarAssign
+                    | Kind::SlashAssign
+                    | Kind::PercentAssign
+                    | Kind::AndAssign
+                    | Kind::OrAssign
+            )
+        )
     }
-}
 
-// Whether the token at `at` is a constant.
-pub fn constant_at(tokens: &[Token], at: usize) -> bool
-    ensures same { result ≡ is_constant (seen tokens.now at) }
-    ensures inside { result ≡ true → at < length tokens.now }
-{
-    constant(kind_at(tokens, at))
+    // Whether the token at `at` is a type.
+    pub fn scalar_at(&self, at: usize) -> bool
+        ensures same { result ≡ is_scalar (seen self.now.tokens.now at) }
+        ensures inside { result ≡ true → at < length self.now.tokens.now }
+    {
+        matches!(self.kind_at(at), Some(Kind::Bool | Kind::Char | Kind::Int))
+    }
+
+    // Whether the token at `at` says what an extern gives.
+    pub fn result_at(&self, at: usize) -> bool
+        ensures same { result ≡ is_result (seen self.now.tokens.now at) }
+        ensures inside { result ≡ true → at < length self.now.tokens.now }
+    {
+        matches!(
+            self.kind_at(at),
+            Some(Kind::Bool | Kind::Char | Kind::Int | Kind::Void)
+        )
+    }
+
+    // Whether the token at `at` is a constant.
+    pub fn constant_at(&self, at: usize) -> bool
+        ensures same { result ≡ is_constant (seen self.now.tokens.now at) }
+        ensures inside { result ≡ true → at < length self.now.tokens.now }
+    {
+        matches!(
+            self.kind_at(at),
+            Some(Kind::Number | Kind::Character | Kind::True | Kind::False)
+        )
+    }
 }

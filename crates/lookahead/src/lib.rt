@@ -3,10 +3,8 @@
 
 mod class;
 mod head;
-mod kinds;
+mod text;
 
-pub use class::{
-    Lead, Start, assigns_at, constant_at, lead_at, looseness_at, result_at, scalar_at, start_at,
-};
-pub use head::{part, past_main, past_static};
-pub use kinds::{is_at, kind_at};
+pub use class::{Lead, Start};
+pub use head::part;
+pub use text::Text;

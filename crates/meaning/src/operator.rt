@@ -1,7 +1,7 @@
 // The types of values, and the operators that take two.
 
 // The type of a value.
-#[derive(Clone, Copy)]
+#[derive(Clone, Copy, PartialEq, Eq, Debug)]
 pub enum Scalar {
     Bool,
     Char,
@@ -9,7 +9,7 @@ pub enum Scalar {
 }
 
 // An operator that takes two operands.
-#[derive(Clone, Copy)]
+#[derive(Clone, Copy, PartialEq, Eq, Debug)]
 pub enum Operator {
     Add,
     Subtract,

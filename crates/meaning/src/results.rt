@@ -25,7 +25,7 @@ const RESULTS: [[Option<Scalar>; 3]; 13] = [
 pub fn result_type(operator: Operator, left: Scalar, right: Scalar) -> Option<Scalar>
     ensures { result ≡ result_of operator left right }
 {
-    if left as u8 != right as u8 {
+    if left != right {
         return None;
     }
     RESULTS[operator as usize][left as usize]

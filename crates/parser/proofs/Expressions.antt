@@ -1,5 +1,6 @@
 -- What the machine does with expressions, for each way that the code takes.
-use Rattle.std.proofs.Common.{◌≡◌, ℕ, zero, suc, ◌+◌, ◌-◌, ◌<◌, ◌≤◌, Bool, true, false, cond, not, eqb, ltb, ◌⊎◌, List, ◌∷◌, length, drop, Some, None, Ok, Err, Option, Result, sym, refl, ap, ◌∙◌, inl, inr, sub-one, arith}
+use Rattle.std.proofs.Common.{◌≡◌, ℕ, suc, ◌+◌, ◌-◌, ◌<◌, ◌≤◌, Bool, true, false, cond, not, eqb, ltb, ◌⊎◌, List, ◌∷◌, length, drop, Some, None, is_some, Ok, Err, Option, Result, sym, refl, ap, ◌∙◌, inl, inr, sub-one, arith}
+use Rattle.std.specs.Option.{option_eq}
 use Rattle.std.proofs.lemmas.Bool.Decides.{nat_tests}
 use Rattle.lexer.specs.Reading.{lexemes}
 use Rattle.lexer.specs.declared.kind.Kind.{Kind}
@@ -11,25 +12,25 @@ use Rattle.meaning.specs.Trees.{Ident, Constant, variable, args, no_args}
 use Rattle.meaning.specs.Grammar.{looseness}
 use Rattle.meaning.proofs.Tokens.{OpenParen, CloseParen, Comma, Tok, name, value, operator, bang, word}
 use Rattle.meaning.proofs.Stack.{is_word, loose, Sym, token, operand, called, tail, expr, exprs, further, arguments, done, end, stop, operand_rule, expr_rule, exprs_rule, gather, listed, tails_to, step}
-use Rattle.meaning.proofs.Builds.{never}
 use Rattle.meaning.proofs.Judge.{Outcome, refused, decide, judge}
 use Rattle.lookahead.specs.declared.class.Start.{Start}
-use Rattle.lookahead.specs.declared.class.Start.TheVariants.{Name, Constant as Literal, Prefix, Bracket, Nothing}
-use Rattle.lookahead.specs.Seen.{seen, is_kind, start_of, looseness_of, Inside}
+use Rattle.lookahead.specs.declared.class.Start.TheVariants.{Name, Constant as Literal, Prefix, Bracket}
+use Rattle.lookahead.specs.Seen.{seen, is_kind, start_of, looseness_of}
 use Rattle.parser.specs.declared.fault.Fault.{Fault}
 use Rattle.parser.specs.declared.fault.Fault.TheVariants.{Unexpected, TooDeep}
-use Rattle.parser.specs.Steps.{faulted, admission, begins_operand, operands}
+use Rattle.parser.specs.Steps.{faulted, admission, operands}
+use Rattle.parser.proofs.Places.{Begins}
 use Rattle.parser.proofs.Look.{Sees, tok_at, sees, stepping, refusing, skipping, alike, decide-onto}
 use Rattle.parser.proofs.Expect.{found, found_inside, word_at, expected}
 
 -- How an operand begins.
 
-abbrev StartSees : Start → Tok → Type 0
-StartSees Name t = (x : Ident) × (t ≡ name x)
-StartSees Literal t = (c : Constant) × (t ≡ value c)
-StartSees Prefix t = ((p : ℕ) × (t ≡ operator Subtract p)) ⊎ ((p : ℕ) × (t ≡ bang p))
-StartSees Bracket t = (p : ℕ) × (t ≡ word OpenParen p)
-StartSees Nothing t = (d : ℕ) (K : List Sym) → operand_rule d t K ≡ stop
+abbrev StartSees : Option Start → Tok → Type 0
+StartSees None t = (d : ℕ) (K : List Sym) → operand_rule d t K ≡ stop
+StartSees (Some Name) t = (x : Ident) × (t ≡ name x)
+StartSees (Some Literal) t = (c : Constant) × (t ≡ value c)
+StartSees (Some Prefix) t = ((p : ℕ) × (t ≡ operator Subtract p)) ⊎ ((p : ℕ) × (t ≡ bang p))
+StartSees (Some Bracket) t = (p : ℕ) × (t ≡ word OpenParen p)
 
 start_seen : (o : Option Kind) (t : Tok) → Sees o t → StartSees (start_of o) t
 start_seen None t s = λ d K. ap (λ (x : Tok). operand_rule d x K) s
@@ -83,14 +84,14 @@ start_seen (Some Kinds.CloseBrace) t s = λ d K. ap (λ (x : Tok). operand_rule 
 start_seen (Some Kinds.Comma) t s = λ d K. ap (λ (x : Tok). operand_rule d x K) s.1
 start_seen (Some Kinds.Semicolon) t s = λ d K. ap (λ (x : Tok). operand_rule d x K) s.1
 
-starts : (s : List ℕ) (ts : List Token) (i : ℕ) (x : Start) → x ≡ start_of (seen ts i) → StartSees x (tok_at s ts i)
+starts : (s : List ℕ) (ts : List Token) (i : ℕ) (x : Option Start) → x ≡ start_of (seen ts i) → StartSees x (tok_at s ts i)
 starts s ts i x e = rw e (start_seen (seen ts i) (tok_at s ts i) (sees s ts i))
 
 -- Operators.
 
-abbrev pub LooseSees : ℕ → Tok → Type 0
-LooseSees zero t = loose t ≡ 7
-LooseSees (suc n) t = (o : Operator) × (p : ℕ) × (t ≡ operator o p) × (looseness o ≡ suc n)
+abbrev pub LooseSees : Option ℕ → Tok → Type 0
+LooseSees None t = loose t ≡ 7
+LooseSees (Some n) t = (o : Operator) × (p : ℕ) × (t ≡ operator o p) × (looseness o ≡ n)
 
 pub loose-seen : (o : Option Kind) (t : Tok) → Sees o t → LooseSees (looseness_of o) t
 loose-seen None t s = ap loose s
@@ -144,14 +145,10 @@ loose-seen (Some Kinds.CloseBrace) t s = ap loose s.1
 loose-seen (Some Kinds.Comma) t s = ap loose s.1
 loose-seen (Some Kinds.Semicolon) t s = ap loose s.1
 
--- the operator is the machine's
-pub loose_is : (n : ℕ) (t : Tok) → LooseSees n t → 0 < n → (o : Operator) × (p : ℕ) × (t ≡ operator o p) × (looseness o ≡ n)
-loose_is zero t l h = absurd (omega arith)
-loose_is (suc n) t l h = l
-
-not_loose : (m n : ℕ) (t : Tok) → LooseSees m t → n ≤ 6 → (m ≡ n → ⊥) → eqb (loose t) n ≡ false
-not_loose zero n t l h d = grind (arith, nat_tests)
-not_loose (suc m) n t l h d = let e : loose t ≡ suc m = ap loose l.2 ∙ l.3 in grind (arith, nat_tests)
+not_loose : (m : Option ℕ) (n : ℕ) (t : Tok) → LooseSees m t → n ≤ 6 → (m ≡ Some n → ⊥) → eqb (loose t) n ≡ false
+not_loose None n t l h d = grind (arith, nat_tests)
+not_loose (Some m) n t l h d =
+    let e : loose t ≡ m = ap loose l.2 ∙ l.3 in let f : m ≡ n → ⊥ = λ x. d (ap (λ (y : ℕ). Some y) x) in grind (arith, nat_tests)
 
 -- the verdict on the tokens from a place on
 abbrev pub from : List ℕ → List Token → List Sym → ℕ → Outcome
@@ -161,106 +158,85 @@ pub expression_is : (s : List ℕ) (ts : List Token) (i d : ℕ) (K : List Sym) 
 expression_is s ts i d K =
     alike s ts i (expr d ∷ K) (operands 6 d K) (tok_at s ts i) refl (λ j k. decide-onto (operands 6 d K) (expr d ∷ K) (λ vs. gather 6 d K vs.0 vs.1) (operand_rule d (tok_at s ts i) (tails_to 6 d K)) j k) refl
 
-tails_more : (n m d : ℕ) (K : List Sym) → n ≡ suc m → tails_to n d K ≡ tails_to m d (tail n d ∷ K)
-tails_more n m d K e = rw e refl
+-- whether an operator of this looseness follows
+follows : (o : Option ℕ) (n : ℕ) → true ≡ option_eq eqb o (Some n) → o ≡ Some n
+follows None n h = let z : ◌≡◌ {A = ℕ} 0 1 = cc in absurd (omega arith)
+follows (Some m) n h = let e : m ≡ n = grind (arith, nat_tests) in ap (λ (x : ℕ). Some x) e
 
-pub operands_more : (n d : ℕ) (K : List Sym) → 0 < n → operands n d K ≡ operands (n - 1) d (tail n d ∷ K)
-operands_more n d K h = let e : n ≡ suc (n - 1) = omega arith in ap (λ (x : List Sym). operand d ∷ x) (tails_more n (n - 1) d K e)
+ceases : (o : Option ℕ) (n : ℕ) → false ≡ option_eq eqb o (Some n) → o ≡ Some n → ⊥
+ceases o n h e = let z : false ≡ eqb n n = h ∙ ap (λ (x : Option ℕ). option_eq eqb x (Some n)) e in grind (arith, nat_tests)
 
 -- further operands: none, or one more
-pub tail_stop : (s : List ℕ) (ts : List Token) (i n d : ℕ) (K : List Sym) → n ≤ 6 → (looseness_of (seen ts i) ≡ n → ⊥) → from s ts (tail n d ∷ K) i ≡ from s ts K i
-tail_stop s ts i n d K h e =
-    skipping (tail n d) done refl s ts i K (tok_at s ts i) refl (not_loose (looseness_of (seen ts i)) n (tok_at s ts i) (loose-seen (seen ts i) (tok_at s ts i) (sees s ts i)) h e)
+pub tail_stop : (s : List ℕ) (ts : List Token) (i n d : ℕ) (K : List Sym) → n ≤ 6 → (o : Option ℕ) → o ≡ looseness_of (seen ts i) → false ≡ option_eq eqb o (Some n) → from s ts (tail n d ∷ K) i ≡ from s ts K i
+tail_stop s ts i n d K h o e f =
+    skipping (tail n d) done refl s ts i K (tok_at s ts i) refl (not_loose o n (tok_at s ts i) (rw e (loose-seen (seen ts i) (tok_at s ts i) (sees s ts i))) h (ceases o n f))
 
-pub tail_go : (s : List ℕ) (ts : List Token) (i n d : ℕ) (K : List Sym) → 0 < n → i < length ts → looseness_of (seen ts i) ≡ n → from s ts (tail n d ∷ K) i ≡ from s ts (operands (n - 1) d (tail n d ∷ K)) (i + 1)
-tail_go s ts i n d K h l e =
-    let q = loose_is n (tok_at s ts i) (rw e at (loose-seen (seen ts i) (tok_at s ts i) (sees s ts i))) h in
+pub tail_go : (s : List ℕ) (ts : List Token) (i n d : ℕ) (K : List Sym) → 0 < n → (o : Option ℕ) → record { same : o ≡ looseness_of (seen ts i); inside : is_some o ≡ true → i < length ts } → true ≡ option_eq eqb o (Some n)
+    → from s ts (tail n d ∷ K) i ≡ from s ts (operands (n - 1) d (tail n d ∷ K)) (i + 1)
+tail_go s ts i n d K h o x f =
+    let e = follows o n f in
+    let l = x.inside (ap (is_some {T = ℕ}) e) in
+    let q = rw (sym x.same ∙ e) at (loose-seen (seen ts i) (tok_at s ts i) (sees s ts i)) in
     let b : eqb (looseness q.0) n ≡ true = grind (arith, nat_tests) in
-    let f = sub-one n in
-    stepping s ts i (tail n d ∷ K) (operator q.0 q.1) l q.2 ∙ rw (b, f) refl
-
--- an operand: refused, too deep, or each of its kinds
-operand_nothing : (s : List ℕ) (ts : List Token) (i d : ℕ) (K : List Sym) → Nothing ≡ start_of (seen ts i) → from s ts (operand d ∷ K) i ≡ refused 9 i
-operand_nothing s ts i d K e = refusing s ts i (operand d ∷ K) (tok_at s ts i) refl (starts s ts i Nothing e d K) refl
-
--- what is admitted begins something
-pub admitted : (b : Bool) (i d : ℕ) (u : Unit {0}) → Ok u ≡ admission b i d → b ≡ true
-admitted true i d u a = refl
-admitted false i d u a = let z : ◌≡◌ {A = ℕ} 0 1 = cc in absurd (omega arith)
+    let g = sub-one n in
+    stepping s ts i (tail n d ∷ K) (operator q.0 q.1) l q.2 ∙ rw (b, g) refl
 
 -- what begins and is not admitted is too deep
-pub deep : (d i : ℕ) (x : Outcome) (f : Fault) → Err f ≡ admission true i d → cond (ltb 32 d) (refused 10 i) x ≡ faulted f
-deep d i x f a = by (ltb 32 d) a
+pub deep : {T : Type 0} (v : T) (d i : ℕ) (x : Outcome) (f : Fault) → Err f ≡ admission (Some v) i d → cond (ltb 32 d) (refused 10 i) x ≡ faulted f
+deep {T} v d i x f a = by (ltb 32 d) a
   where
-    by : (t : Bool) → ◌≡◌ {A = Result (Unit {0}) Fault} (Err f) (cond t (Err (TooDeep i)) (Ok tt)) → cond t (refused 10 i) x ≡ faulted f
+    by : (t : Bool) → ◌≡◌ {A = Result T Fault} (Err f) (cond t (Err (TooDeep i)) (Ok v)) → cond t (refused 10 i) x ≡ faulted f
     by true a = let z : TooDeep i ≡ f = cc in ap faulted z
     by false a = let z : ◌≡◌ {A = ℕ} 0 1 = cc in absurd (omega arith)
 
 -- where nothing begins
-pub nothing : (d i : ℕ) (f : Fault) → Err f ≡ admission false i d → refused 9 i ≡ faulted f
+pub nothing : {T : Type 0} (d i : ℕ) (f : Fault) → Err f ≡ admission {T = T} None i d → refused 9 i ≡ faulted f
 nothing d i f a = let z : Unexpected i ≡ f = cc in ap faulted z
 
 pub shallow : (d i : ℕ) (x : Outcome) → d ≤ 32 → cond (ltb 32 d) (refused 10 i) x ≡ x
 shallow d i x h = grind (arith, nat_tests)
 
-operand_begins : (s : List ℕ) (ts : List Token) (i d : ℕ) (K : List Sym) (x : Start) → begins_operand x ≡ true → i < length ts → StartSees x (tok_at s ts i)
+-- an operand: refused, too deep, or each of its kinds
+operand_begins : (s : List ℕ) (ts : List Token) (i d : ℕ) (K : List Sym) (x : Start) → i < length ts → StartSees (Some x) (tok_at s ts i)
     → (y : Outcome) × (from s ts (operand d ∷ K) i ≡ cond (ltb 32 d) (refused 10 i) y)
-operand_begins s ts i d K Name n h e = (_, stepping s ts i (operand d ∷ K) (name e.0) h e.1)
-operand_begins s ts i d K Literal n h e = (_, stepping s ts i (operand d ∷ K) (value e.0) h e.1)
-operand_begins s ts i d K Prefix n h (inl e) = (_, stepping s ts i (operand d ∷ K) (operator Subtract e.0) h e.1)
-operand_begins s ts i d K Prefix n h (inr e) = (_, stepping s ts i (operand d ∷ K) (bang e.0) h e.1)
-operand_begins s ts i d K Bracket n h e = (_, stepping s ts i (operand d ∷ K) (word OpenParen e.0) h e.1)
-operand_begins s ts i d K Nothing n h e = never n
+operand_begins s ts i d K Name h e = (_, stepping s ts i (operand d ∷ K) (name e.0) h e.1)
+operand_begins s ts i d K Literal h e = (_, stepping s ts i (operand d ∷ K) (value e.0) h e.1)
+operand_begins s ts i d K Prefix h (inl e) = (_, stepping s ts i (operand d ∷ K) (operator Subtract e.0) h e.1)
+operand_begins s ts i d K Prefix h (inr e) = (_, stepping s ts i (operand d ∷ K) (bang e.0) h e.1)
+operand_begins s ts i d K Bracket h e = (_, stepping s ts i (operand d ∷ K) (word OpenParen e.0) h e.1)
 
-operand_deep : (s : List ℕ) (ts : List Token) (i d : ℕ) (K : List Sym) (x : Start) (f : Fault) → begins_operand x ≡ true → i < length ts → x ≡ start_of (seen ts i) → Err f ≡ admission true i d → from s ts (operand d ∷ K) i ≡ faulted f
-operand_deep s ts i d K x f n l e a = let b = operand_begins s ts i d K x n l (starts s ts i x e) in b.1 ∙ deep d i b.0 f a
+pub operand_refused : (s : List ℕ) (ts : List Token) (i d : ℕ) (K : List Sym) (x : Option Start) (f : Fault) → x ≡ start_of (seen ts i) → (is_some x ≡ true → i < length ts) → Err f ≡ admission x i d → from s ts (operand d ∷ K) i ≡ faulted f
+operand_refused s ts i d K None f e l a = refusing s ts i (operand d ∷ K) (tok_at s ts i) refl (starts s ts i None e d K) refl ∙ nothing {T = Start} d i f a
+operand_refused s ts i d K (Some x) f e l a = let b = operand_begins s ts i d K x (l refl) (starts s ts i (Some x) e) in b.1 ∙ deep x d i b.0 f a
 
-operand_unfit : (s : List ℕ) (ts : List Token) (i d : ℕ) (K : List Sym) (x : Start) (f : Fault) → x ≡ start_of (seen ts i) → Inside x i (length ts) → Err f ≡ admission (begins_operand x) i d → from s ts (operand d ∷ K) i ≡ faulted f
-operand_unfit s ts i d K Name f e l a = operand_deep s ts i d K Name f refl l e a
-operand_unfit s ts i d K Literal f e l a = operand_deep s ts i d K Literal f refl l e a
-operand_unfit s ts i d K Prefix f e l a = operand_deep s ts i d K Prefix f refl l e a
-operand_unfit s ts i d K Bracket f e l a = operand_deep s ts i d K Bracket f refl l e a
-operand_unfit s ts i d K Nothing f e l a = operand_nothing s ts i d K e ∙ nothing d i f a
+pub operand_constant : (s : List ℕ) (ts : List Token) (i d : ℕ) (K : List Sym) → Begins start_of ts i d Literal → from s ts (operand d ∷ K) i ≡ from s ts K (i + 1)
+operand_constant s ts i d K b = let c = starts s ts i (Some Literal) b.is in stepping s ts i (operand d ∷ K) (value c.0) b.inside c.1 ∙ shallow d i _ b.shallow
 
-pub operand_refused : (s : List ℕ) (ts : List Token) (i d : ℕ) (K : List Sym) (x : Start) (b : Bool) (f : Fault) → b ≡ begins_operand x → x ≡ start_of (seen ts i) → Inside x i (length ts) → Err f ≡ admission b i d → from s ts (operand d ∷ K) i ≡ faulted f
-operand_refused s ts i d K x b f q e l a = operand_unfit s ts i d K x f e l (a ∙ ap (λ (y : Bool). admission y i d) q)
-
--- what begins nothing was not admitted
-pub literal : (x : Start) (b : Bool) (i d : ℕ) (u : Unit {0}) → (x ≡ Literal) ⊎ (x ≡ Nothing) → b ≡ begins_operand x → Ok u ≡ admission b i d → x ≡ Literal
-literal x b i d u (inl e) q a = e
-literal x b i d u (inr e) q a = never (sym (ap begins_operand e) ∙ sym q ∙ admitted b i d u a)
-
-pub literal_inside : (x : Start) (i n : ℕ) → x ≡ Literal → Inside x i n → i < n
-literal_inside x i n e l = rw e at l
-
-pub operand_constant : (s : List ℕ) (ts : List Token) (i d : ℕ) (K : List Sym) → d ≤ 32 → i < length ts → Literal ≡ start_of (seen ts i) → from s ts (operand d ∷ K) i ≡ from s ts K (i + 1)
-operand_constant s ts i d K h l e = let c = starts s ts i Literal e in stepping s ts i (operand d ∷ K) (value c.0) l c.1 ∙ shallow d i _ h
-
-prefixed : (s : List ℕ) (ts : List Token) (i d : ℕ) (K : List Sym) → d ≤ 32 → i < length ts → StartSees Prefix (tok_at s ts i) → from s ts (operand d ∷ K) i ≡ from s ts (operand (suc d) ∷ K) (i + 1)
+prefixed : (s : List ℕ) (ts : List Token) (i d : ℕ) (K : List Sym) → d ≤ 32 → i < length ts → StartSees (Some Prefix) (tok_at s ts i) → from s ts (operand d ∷ K) i ≡ from s ts (operand (suc d) ∷ K) (i + 1)
 prefixed s ts i d K h l (inl c) = stepping s ts i (operand d ∷ K) (operator Subtract c.0) l c.1 ∙ shallow d i _ h
 prefixed s ts i d K h l (inr c) = stepping s ts i (operand d ∷ K) (bang c.0) l c.1 ∙ shallow d i _ h
 
-pub operand_prefix : (s : List ℕ) (ts : List Token) (i d : ℕ) (K : List Sym) → d ≤ 32 → i < length ts → Prefix ≡ start_of (seen ts i) → from s ts (operand d ∷ K) i ≡ from s ts (operand (d + 1) ∷ K) (i + 1)
-operand_prefix s ts i d K h l e = let z : d + 1 ≡ suc d = omega arith in rw z (prefixed s ts i d K h l (starts s ts i Prefix e))
+pub operand_prefix : (s : List ℕ) (ts : List Token) (i d : ℕ) (K : List Sym) → Begins start_of ts i d Prefix → from s ts (operand d ∷ K) i ≡ from s ts (operand (d + 1) ∷ K) (i + 1)
+operand_prefix s ts i d K b = let z : d + 1 ≡ suc d = omega arith in rw z (prefixed s ts i d K b.shallow b.inside (starts s ts i (Some Prefix) b.is))
 
-pub operand_bracket : (s : List ℕ) (ts : List Token) (i d : ℕ) (K : List Sym) → d ≤ 32 → i < length ts → Bracket ≡ start_of (seen ts i) → from s ts (operand d ∷ K) i ≡ from s ts (expr (d + 1) ∷ token CloseParen ∷ K) (i + 1)
-operand_bracket s ts i d K h l e =
-    let c = starts s ts i Bracket e in let z : d + 1 ≡ suc d = omega arith in
-    rw z (stepping s ts i (operand d ∷ K) (word OpenParen c.0) l c.1 ∙ shallow d i _ h)
+pub operand_bracket : (s : List ℕ) (ts : List Token) (i d : ℕ) (K : List Sym) → Begins start_of ts i d Bracket → from s ts (operand d ∷ K) i ≡ from s ts (expr (d + 1) ∷ token CloseParen ∷ K) (i + 1)
+operand_bracket s ts i d K b =
+    let c = starts s ts i (Some Bracket) b.is in let z : d + 1 ≡ suc d = omega arith in
+    rw z (stepping s ts i (operand d ∷ K) (word OpenParen c.0) b.inside c.1 ∙ shallow d i _ b.shallow)
 
-pub operand_variable : (s : List ℕ) (ts : List Token) (i d : ℕ) (K : List Sym) → d ≤ 32 → i < length ts → Name ≡ start_of (seen ts i) → is_kind (seen ts (i + 1)) Kinds.OpenParen ≡ false → from s ts (operand d ∷ K) i ≡ from s ts K (i + 1)
-operand_variable s ts i d K h l e n =
-    let c = starts s ts i Name e in
-    stepping s ts i (operand d ∷ K) (name c.0) l c.1 ∙ shallow d i _ h
+pub operand_variable : (s : List ℕ) (ts : List Token) (i d : ℕ) (K : List Sym) → Begins start_of ts i d Name → is_kind (seen ts (i + 1)) Kinds.OpenParen ≡ false → from s ts (operand d ∷ K) i ≡ from s ts K (i + 1)
+operand_variable s ts i d K b n =
+    let c = starts s ts i (Some Name) b.is in
+    stepping s ts i (operand d ∷ K) (name c.0) b.inside c.1 ∙ shallow d i _ b.shallow
     ∙ skipping (called d c.0) (variable c.0) refl s ts (i + 1) K (tok_at s ts (i + 1)) refl (word_at OpenParen s ts (i + 1) ∙ n)
 
-pub operand_call : (s : List ℕ) (ts : List Token) (i d : ℕ) (K : List Sym) → d ≤ 32 → i < length ts → Name ≡ start_of (seen ts i) → is_kind (seen ts (i + 1)) Kinds.OpenParen ≡ true
-    → from s ts (operand d ∷ K) i ≡ from s ts (arguments (d + 1) ∷ token CloseParen ∷ K) (i + 2)
-operand_call s ts i d K h l e n =
-    let c = starts s ts i Name e in
+pub operand_call : (s : List ℕ) (ts : List Token) (i d : ℕ) (K : List Sym) → Begins start_of ts i d Name → is_kind (seen ts (i + 1)) Kinds.OpenParen ≡ true
+    → from s ts (operand d ∷ K) i ≡ from s ts (arguments (d + 1) ∷ token CloseParen ∷ K) (i + 1 + 1)
+operand_call s ts i d K b n =
+    let c = starts s ts i (Some Name) b.is in
     let p = found s ts (i + 1) Kinds.OpenParen n in
-    let z : d + 1 ≡ suc d = omega arith in let y : i + 2 ≡ i + 1 + 1 = omega arith in
-    rw (z, y) (stepping s ts i (operand d ∷ K) (name c.0) l c.1 ∙ shallow d i _ h
+    let z : d + 1 ≡ suc d = omega arith in
+    rw z (stepping s ts i (operand d ∷ K) (name c.0) b.inside c.1 ∙ shallow d i _ b.shallow
     ∙ stepping s ts (i + 1) (called d c.0 ∷ K) (word OpenParen p.0) (found_inside ts (i + 1) Kinds.OpenParen n) p.1)
 
 -- arguments: none, or one and more
@@ -288,6 +264,3 @@ further_go s ts i d K n =
 
 pub further_stop : (s : List ℕ) (ts : List Token) (i d : ℕ) (K : List Sym) → is_kind (seen ts i) Kinds.Comma ≡ false → from s ts (further d ∷ K) i ≡ from s ts K i
 further_stop s ts i d K n = skipping (further d) end refl s ts i K (tok_at s ts i) refl (word_at Comma s ts i ∙ n)
-
-pub binary_more : (s : List ℕ) (ts : List Token) (i n d : ℕ) (K : List Sym) → 0 < n → from s ts (operands n d K) i ≡ from s ts (operands (n - 1) d (tail n d ∷ K)) i
-binary_more s ts i n d K h = ap (λ (x : List Sym). from s ts x i) (operands_more n d K h)

@@ -1,5 +1,5 @@
 -- What the machine does with statements, for each way that the code takes.
-use Rattle.std.proofs.Common.{◌≡◌, ℕ, suc, ◌+◌, ◌<◌, ◌≤◌, Bool, true, false, cond, not, ltb, ◌⊎◌, List, ◌∷◌, length, Some, None, Ok, Err, Option, sym, refl, ap, ◌∙◌, inl, inr, arith}
+use Rattle.std.proofs.Common.{◌≡◌, ℕ, suc, ◌+◌, ◌<◌, ◌≤◌, Bool, true, false, cond, not, ltb, ◌⊎◌, List, ◌∷◌, length, Some, None, is_some, Err, Option, sym, refl, ap, ◌∙◌, inl, inr, arith}
 use Rattle.lexer.specs.declared.kind.Kind.{Kind}
 use Rattle.lexer.specs.declared.kind.Kind.TheVariants as Kinds
 use Rattle.lexer.specs.declared.kind.Token.{Token}
@@ -8,33 +8,33 @@ use Rattle.meaning.specs.declared.operator.Scalar.TheVariants.{Bool as bool, Cha
 use Rattle.meaning.specs.Trees.{Ident, Modifier, plus, minus, times, over, modulo, both, either, evaluate, return, cons, nil}
 use Rattle.meaning.proofs.Tokens.{OpenBrace, CloseBrace, Semicolon, If, Else, While, Do, For, Break, Continue, Return, Assign, Tok, name, type, modifier, word}
 use Rattle.meaning.proofs.Stack.{neither, assigning, Sym, token, called, expr, statement, named, returned, statements, orelse, absent, Step, stop, expr_rule, evaluation, statement_rule, gather, tails_to, step}
-use Rattle.meaning.proofs.Builds.{never}
 use Rattle.meaning.proofs.Judge.{Outcome, refused, decide}
 use Rattle.lookahead.specs.declared.class.Lead.{Lead}
 use Rattle.lookahead.specs.declared.class.Lead.TheVariants as L
-use Rattle.lookahead.specs.Seen.{seen, is_kind, lead_of, assigns_of, InsideLead}
+use Rattle.lookahead.specs.Seen.{seen, is_kind, lead_of, assigns_of}
 use Rattle.parser.specs.declared.fault.Fault.{Fault}
-use Rattle.parser.specs.Steps.{faulted, admission, begins_statement, operands, terminated, a_block, a_definition, a_branch, a_repetition, a_round, a_count}
+use Rattle.parser.specs.Steps.{faulted, admission, operands, terminated, a_block, a_definition, a_branch, a_repetition, a_round, a_count}
+use Rattle.parser.proofs.Places.{Begins}
 use Rattle.parser.proofs.Look.{Sees, tok_at, sees, stepping, refusing, skipping, alike, decide-onto}
 use Rattle.parser.proofs.Expect.{found, found_inside, word_at, at_none, expected}
-use Rattle.parser.proofs.Expressions.{from, admitted, deep, nothing, shallow, expression_is}
+use Rattle.parser.proofs.Expressions.{from, deep, nothing, shallow, expression_is}
 
 -- an expression that begins with this token is a statement by itself
 abbrev Evaluates : Tok → Type 0
 Evaluates t = (d : ℕ) (K : List Sym) → (statement_rule d t K ≡ evaluation d t K) × ((y : Outcome) (i : ℕ) (k : List Sym → Outcome) → (z : Outcome) × (decide (expr_rule d t (token Semicolon ∷ K)) i k ≡ cond (ltb 32 d) (refused 10 i) z))
 
-abbrev LeadSees : Lead → Tok → Type 0
-LeadSees L.Block t = (p : ℕ) × (t ≡ word OpenBrace p)
-LeadSees L.Definition t = (c : Scalar) × (p : ℕ) × (t ≡ type c p)
-LeadSees L.Name t = (x : Ident) × (t ≡ name x)
-LeadSees L.If t = (p : ℕ) × (t ≡ word If p)
-LeadSees L.While t = (p : ℕ) × (t ≡ word While p)
-LeadSees L.Do t = (p : ℕ) × (t ≡ word Do p)
-LeadSees L.For t = (p : ℕ) × (t ≡ word For p)
-LeadSees L.Jump t = ((p : ℕ) × (t ≡ word Break p)) ⊎ ((p : ℕ) × (t ≡ word Continue p))
-LeadSees L.Return t = (p : ℕ) × (t ≡ word Return p)
-LeadSees L.Expression t = Evaluates t
-LeadSees L.Nothing t = (d : ℕ) (K : List Sym) → statement_rule d t K ≡ stop
+abbrev LeadSees : Option Lead → Tok → Type 0
+LeadSees None t = (d : ℕ) (K : List Sym) → statement_rule d t K ≡ stop
+LeadSees (Some L.Block) t = (p : ℕ) × (t ≡ word OpenBrace p)
+LeadSees (Some L.Definition) t = (c : Scalar) × (p : ℕ) × (t ≡ type c p)
+LeadSees (Some L.Name) t = (x : Ident) × (t ≡ name x)
+LeadSees (Some L.If) t = (p : ℕ) × (t ≡ word If p)
+LeadSees (Some L.While) t = (p : ℕ) × (t ≡ word While p)
+LeadSees (Some L.Do) t = (p : ℕ) × (t ≡ word Do p)
+LeadSees (Some L.For) t = (p : ℕ) × (t ≡ word For p)
+LeadSees (Some L.Jump) t = ((p : ℕ) × (t ≡ word Break p)) ⊎ ((p : ℕ) × (t ≡ word Continue p))
+LeadSees (Some L.Return) t = (p : ℕ) × (t ≡ word Return p)
+LeadSees (Some L.Expression) t = Evaluates t
 
 evaluates : (t u : Tok) → t ≡ u → Evaluates u → Evaluates t
 evaluates t u e h = rw e h
@@ -91,7 +91,7 @@ lead_seen (Some Kinds.CloseBrace) t s = λ d K. ap (λ (x : Tok). statement_rule
 lead_seen (Some Kinds.Comma) t s = λ d K. ap (λ (x : Tok). statement_rule d x K) s.1
 lead_seen (Some Kinds.Semicolon) t s = λ d K. ap (λ (x : Tok). statement_rule d x K) s.1
 
-leads : (s : List ℕ) (ts : List Token) (i : ℕ) (x : Lead) → x ≡ lead_of (seen ts i) → LeadSees x (tok_at s ts i)
+leads : (s : List ℕ) (ts : List Token) (i : ℕ) (x : Option Lead) → x ≡ lead_of (seen ts i) → LeadSees x (tok_at s ts i)
 leads s ts i x e = rw e (lead_seen (seen ts i) (tok_at s ts i) (sees s ts i))
 
 abbrev AssignSees : Bool → Tok → Type 0
@@ -153,124 +153,100 @@ assign_seen (Some Kinds.Semicolon) t s = ap assigning s.1
 assigned : (s : List ℕ) (ts : List Token) (i : ℕ) (b : Bool) → b ≡ assigns_of (seen ts i) → AssignSees b (tok_at s ts i)
 assigned s ts i b e = rw e (assign_seen (seen ts i) (tok_at s ts i) (sees s ts i))
 
--- no statement, or one too deep
-statement_nothing : (s : List ℕ) (ts : List Token) (i d : ℕ) (K : List Sym) → L.Nothing ≡ lead_of (seen ts i) → from s ts (statement d ∷ K) i ≡ refused 9 i
-statement_nothing s ts i d K e = refusing s ts i (statement d ∷ K) (tok_at s ts i) refl (leads s ts i L.Nothing e d K) refl
-
 evaluation_is : (s : List ℕ) (ts : List Token) (i d : ℕ) (K : List Sym) → Evaluates (tok_at s ts i) → from s ts (statement d ∷ K) i ≡ from s ts (expr d ∷ token Semicolon ∷ K) i
 evaluation_is s ts i d K e =
     alike s ts i (statement d ∷ K) (expr d ∷ token Semicolon ∷ K) (tok_at s ts i) refl
     (λ j k. ap (λ (x : Step (statement d ∷ K)). decide x j k) (e d K).0 ∙ decide-onto (expr d ∷ token Semicolon ∷ K) (statement d ∷ K) (λ vs. (evaluate vs.0 vs.1.0, vs.1.1)) (expr_rule d (tok_at s ts i) (token Semicolon ∷ K)) j k) refl
 
-begins : (s : List ℕ) (ts : List Token) (i d : ℕ) (K : List Sym) (x : Lead) → begins_statement x ≡ true → i < length ts → LeadSees x (tok_at s ts i)
+-- no statement, or one too deep
+begins : (s : List ℕ) (ts : List Token) (i d : ℕ) (K : List Sym) (x : Lead) → i < length ts → LeadSees (Some x) (tok_at s ts i)
     → (y : Outcome) × (from s ts (statement d ∷ K) i ≡ cond (ltb 32 d) (refused 10 i) y)
-begins s ts i d K L.Block n h e = (_, stepping s ts i (statement d ∷ K) (word OpenBrace e.0) h e.1)
-begins s ts i d K L.Definition n h e = (_, stepping s ts i (statement d ∷ K) (type e.0 e.1) h e.2)
-begins s ts i d K L.Name n h e = (_, stepping s ts i (statement d ∷ K) (name e.0) h e.1)
-begins s ts i d K L.If n h e = (_, stepping s ts i (statement d ∷ K) (word If e.0) h e.1)
-begins s ts i d K L.While n h e = (_, stepping s ts i (statement d ∷ K) (word While e.0) h e.1)
-begins s ts i d K L.Do n h e = (_, stepping s ts i (statement d ∷ K) (word Do e.0) h e.1)
-begins s ts i d K L.For n h e = (_, stepping s ts i (statement d ∷ K) (word For e.0) h e.1)
-begins s ts i d K L.Jump n h (inl e) = (_, stepping s ts i (statement d ∷ K) (word Break e.0) h e.1)
-begins s ts i d K L.Jump n h (inr e) = (_, stepping s ts i (statement d ∷ K) (word Continue e.0) h e.1)
-begins s ts i d K L.Return n h e = (_, stepping s ts i (statement d ∷ K) (word Return e.0) h e.1)
-begins s ts i d K L.Expression n h e =
+begins s ts i d K L.Block h e = (_, stepping s ts i (statement d ∷ K) (word OpenBrace e.0) h e.1)
+begins s ts i d K L.Definition h e = (_, stepping s ts i (statement d ∷ K) (type e.0 e.1) h e.2)
+begins s ts i d K L.Name h e = (_, stepping s ts i (statement d ∷ K) (name e.0) h e.1)
+begins s ts i d K L.If h e = (_, stepping s ts i (statement d ∷ K) (word If e.0) h e.1)
+begins s ts i d K L.While h e = (_, stepping s ts i (statement d ∷ K) (word While e.0) h e.1)
+begins s ts i d K L.Do h e = (_, stepping s ts i (statement d ∷ K) (word Do e.0) h e.1)
+begins s ts i d K L.For h e = (_, stepping s ts i (statement d ∷ K) (word For e.0) h e.1)
+begins s ts i d K L.Jump h (inl e) = (_, stepping s ts i (statement d ∷ K) (word Break e.0) h e.1)
+begins s ts i d K L.Jump h (inr e) = (_, stepping s ts i (statement d ∷ K) (word Continue e.0) h e.1)
+begins s ts i d K L.Return h e = (_, stepping s ts i (statement d ∷ K) (word Return e.0) h e.1)
+begins s ts i d K L.Expression h e =
     let x = stepping s ts i (expr d ∷ token Semicolon ∷ K) (tok_at s ts i) h refl in
     let z = (e d K).1 (refused 9 0) i _ in
     (z.0, evaluation_is s ts i d K e ∙ x ∙ z.1)
-begins s ts i d K L.Nothing n h e = never n
 
-statement_deep : (s : List ℕ) (ts : List Token) (i d : ℕ) (K : List Sym) (x : Lead) (f : Fault) → begins_statement x ≡ true → i < length ts → x ≡ lead_of (seen ts i) → Err f ≡ admission true i d → from s ts (statement d ∷ K) i ≡ faulted f
-statement_deep s ts i d K x f n l e a = let b = begins s ts i d K x n l (leads s ts i x e) in b.1 ∙ deep d i b.0 f a
-
-statement_unfit : (s : List ℕ) (ts : List Token) (i d : ℕ) (K : List Sym) (x : Lead) (f : Fault) → x ≡ lead_of (seen ts i) → InsideLead x i (length ts) → Err f ≡ admission (begins_statement x) i d → from s ts (statement d ∷ K) i ≡ faulted f
-statement_unfit s ts i d K L.Block f e l a = statement_deep s ts i d K L.Block f refl l e a
-statement_unfit s ts i d K L.Definition f e l a = statement_deep s ts i d K L.Definition f refl l e a
-statement_unfit s ts i d K L.Name f e l a = statement_deep s ts i d K L.Name f refl l e a
-statement_unfit s ts i d K L.If f e l a = statement_deep s ts i d K L.If f refl l e a
-statement_unfit s ts i d K L.While f e l a = statement_deep s ts i d K L.While f refl l e a
-statement_unfit s ts i d K L.Do f e l a = statement_deep s ts i d K L.Do f refl l e a
-statement_unfit s ts i d K L.For f e l a = statement_deep s ts i d K L.For f refl l e a
-statement_unfit s ts i d K L.Jump f e l a = statement_deep s ts i d K L.Jump f refl l e a
-statement_unfit s ts i d K L.Return f e l a = statement_deep s ts i d K L.Return f refl l e a
-statement_unfit s ts i d K L.Expression f e l a = statement_deep s ts i d K L.Expression f refl l e a
-statement_unfit s ts i d K L.Nothing f e l a = statement_nothing s ts i d K e ∙ nothing d i f a
-
-pub statement_refused : (s : List ℕ) (ts : List Token) (i d : ℕ) (K : List Sym) (x : Lead) (b : Bool) (f : Fault) → b ≡ begins_statement x → x ≡ lead_of (seen ts i) → InsideLead x i (length ts) → Err f ≡ admission b i d → from s ts (statement d ∷ K) i ≡ faulted f
-statement_refused s ts i d K x b f q e l a = statement_unfit s ts i d K x f e l (a ∙ ap (λ (y : Bool). admission y i d) q)
-
--- what begins nothing was not admitted
-pub evaluated : (x : Lead) (b : Bool) (i d : ℕ) (u : Unit {0}) → (x ≡ L.Expression) ⊎ (x ≡ L.Nothing) → b ≡ begins_statement x → Ok u ≡ admission b i d → x ≡ L.Expression
-evaluated x b i d u (inl e) q a = e
-evaluated x b i d u (inr e) q a = never (sym (ap begins_statement e) ∙ sym q ∙ admitted b i d u a)
+pub statement_refused : (s : List ℕ) (ts : List Token) (i d : ℕ) (K : List Sym) (x : Option Lead) (f : Fault) → x ≡ lead_of (seen ts i) → (is_some x ≡ true → i < length ts) → Err f ≡ admission x i d → from s ts (statement d ∷ K) i ≡ faulted f
+statement_refused s ts i d K None f e l a = refusing s ts i (statement d ∷ K) (tok_at s ts i) refl (leads s ts i None e d K) refl ∙ nothing {T = Lead} d i f a
+statement_refused s ts i d K (Some x) f e l a = let b = begins s ts i d K x (l refl) (leads s ts i (Some x) e) in b.1 ∙ deep x d i b.0 f a
 
 -- each kind of statement
-pub statement_block : (s : List ℕ) (ts : List Token) (i d : ℕ) (K : List Sym) → d ≤ 32 → i < length ts → L.Block ≡ lead_of (seen ts i) → from s ts (statement d ∷ K) i ≡ from s ts (a_block (d + 1) K) (i + 1)
-statement_block s ts i d K h l e = let c = leads s ts i L.Block e in let z : d + 1 ≡ suc d = omega arith in rw z (stepping s ts i (statement d ∷ K) (word OpenBrace c.0) l c.1 ∙ shallow d i _ h)
+pub statement_block : (s : List ℕ) (ts : List Token) (i d : ℕ) (K : List Sym) → Begins lead_of ts i d L.Block → from s ts (statement d ∷ K) i ≡ from s ts (a_block (d + 1) K) (i + 1)
+statement_block s ts i d K b = let c = leads s ts i (Some L.Block) b.is in let z : d + 1 ≡ suc d = omega arith in rw z (stepping s ts i (statement d ∷ K) (word OpenBrace c.0) b.inside c.1 ∙ shallow d i _ b.shallow)
 
-pub statement_definition : (s : List ℕ) (ts : List Token) (i d : ℕ) (K : List Sym) → d ≤ 32 → i < length ts → L.Definition ≡ lead_of (seen ts i) → from s ts (statement d ∷ K) i ≡ from s ts (a_definition d K) (i + 1)
-statement_definition s ts i d K h l e = let c = leads s ts i L.Definition e in stepping s ts i (statement d ∷ K) (type c.0 c.1) l c.2 ∙ shallow d i _ h
+pub statement_definition : (s : List ℕ) (ts : List Token) (i d : ℕ) (K : List Sym) → Begins lead_of ts i d L.Definition → from s ts (statement d ∷ K) i ≡ from s ts (a_definition d K) (i + 1)
+statement_definition s ts i d K b = let c = leads s ts i (Some L.Definition) b.is in stepping s ts i (statement d ∷ K) (type c.0 c.1) b.inside c.2 ∙ shallow d i _ b.shallow
 
-pub statement_if : (s : List ℕ) (ts : List Token) (i d : ℕ) (K : List Sym) → d ≤ 32 → i < length ts → L.If ≡ lead_of (seen ts i) → from s ts (statement d ∷ K) i ≡ from s ts (a_branch d K) (i + 1)
-statement_if s ts i d K h l e = let c = leads s ts i L.If e in let z : d + 1 ≡ suc d = omega arith in rw z (stepping s ts i (statement d ∷ K) (word If c.0) l c.1 ∙ shallow d i _ h)
+pub statement_if : (s : List ℕ) (ts : List Token) (i d : ℕ) (K : List Sym) → Begins lead_of ts i d L.If → from s ts (statement d ∷ K) i ≡ from s ts (a_branch d K) (i + 1)
+statement_if s ts i d K b = let c = leads s ts i (Some L.If) b.is in let z : d + 1 ≡ suc d = omega arith in rw z (stepping s ts i (statement d ∷ K) (word If c.0) b.inside c.1 ∙ shallow d i _ b.shallow)
 
-pub statement_while : (s : List ℕ) (ts : List Token) (i d : ℕ) (K : List Sym) → d ≤ 32 → i < length ts → L.While ≡ lead_of (seen ts i) → from s ts (statement d ∷ K) i ≡ from s ts (a_repetition d K) (i + 1)
-statement_while s ts i d K h l e = let c = leads s ts i L.While e in let z : d + 1 ≡ suc d = omega arith in rw z (stepping s ts i (statement d ∷ K) (word While c.0) l c.1 ∙ shallow d i _ h)
+pub statement_while : (s : List ℕ) (ts : List Token) (i d : ℕ) (K : List Sym) → Begins lead_of ts i d L.While → from s ts (statement d ∷ K) i ≡ from s ts (a_repetition d K) (i + 1)
+statement_while s ts i d K b = let c = leads s ts i (Some L.While) b.is in let z : d + 1 ≡ suc d = omega arith in rw z (stepping s ts i (statement d ∷ K) (word While c.0) b.inside c.1 ∙ shallow d i _ b.shallow)
 
-pub statement_do : (s : List ℕ) (ts : List Token) (i d : ℕ) (K : List Sym) → d ≤ 32 → i < length ts → L.Do ≡ lead_of (seen ts i) → from s ts (statement d ∷ K) i ≡ from s ts (a_round d K) (i + 1)
-statement_do s ts i d K h l e = let c = leads s ts i L.Do e in let z : d + 1 ≡ suc d = omega arith in rw z (stepping s ts i (statement d ∷ K) (word Do c.0) l c.1 ∙ shallow d i _ h)
+pub statement_do : (s : List ℕ) (ts : List Token) (i d : ℕ) (K : List Sym) → Begins lead_of ts i d L.Do → from s ts (statement d ∷ K) i ≡ from s ts (a_round d K) (i + 1)
+statement_do s ts i d K b = let c = leads s ts i (Some L.Do) b.is in let z : d + 1 ≡ suc d = omega arith in rw z (stepping s ts i (statement d ∷ K) (word Do c.0) b.inside c.1 ∙ shallow d i _ b.shallow)
 
-pub statement_for : (s : List ℕ) (ts : List Token) (i d : ℕ) (K : List Sym) → d ≤ 32 → i < length ts → L.For ≡ lead_of (seen ts i) → from s ts (statement d ∷ K) i ≡ from s ts (a_count d K) (i + 1)
-statement_for s ts i d K h l e = let c = leads s ts i L.For e in let z : d + 1 ≡ suc d = omega arith in rw z (stepping s ts i (statement d ∷ K) (word For c.0) l c.1 ∙ shallow d i _ h)
+pub statement_for : (s : List ℕ) (ts : List Token) (i d : ℕ) (K : List Sym) → Begins lead_of ts i d L.For → from s ts (statement d ∷ K) i ≡ from s ts (a_count d K) (i + 1)
+statement_for s ts i d K b = let c = leads s ts i (Some L.For) b.is in let z : d + 1 ≡ suc d = omega arith in rw z (stepping s ts i (statement d ∷ K) (word For c.0) b.inside c.1 ∙ shallow d i _ b.shallow)
 
-jumped : (s : List ℕ) (ts : List Token) (i d : ℕ) (K : List Sym) → d ≤ 32 → i < length ts → LeadSees L.Jump (tok_at s ts i) → from s ts (statement d ∷ K) i ≡ from s ts (token Semicolon ∷ K) (i + 1)
+jumped : (s : List ℕ) (ts : List Token) (i d : ℕ) (K : List Sym) → d ≤ 32 → i < length ts → LeadSees (Some L.Jump) (tok_at s ts i) → from s ts (statement d ∷ K) i ≡ from s ts (token Semicolon ∷ K) (i + 1)
 jumped s ts i d K h l (inl c) = stepping s ts i (statement d ∷ K) (word Break c.0) l c.1 ∙ shallow d i _ h
 jumped s ts i d K h l (inr c) = stepping s ts i (statement d ∷ K) (word Continue c.0) l c.1 ∙ shallow d i _ h
 
-pub statement_jump : (s : List ℕ) (ts : List Token) (i d : ℕ) (K : List Sym) → d ≤ 32 → i < length ts → L.Jump ≡ lead_of (seen ts i) → from s ts (statement d ∷ K) i ≡ from s ts (token Semicolon ∷ K) (i + 1)
-statement_jump s ts i d K h l e = jumped s ts i d K h l (leads s ts i L.Jump e)
+pub statement_jump : (s : List ℕ) (ts : List Token) (i d : ℕ) (K : List Sym) → Begins lead_of ts i d L.Jump → from s ts (statement d ∷ K) i ≡ from s ts (token Semicolon ∷ K) (i + 1)
+statement_jump s ts i d K b = jumped s ts i d K b.shallow b.inside (leads s ts i (Some L.Jump) b.is)
 
-pub statement_expression : (s : List ℕ) (ts : List Token) (i d : ℕ) (K : List Sym) → L.Expression ≡ lead_of (seen ts i) → from s ts (statement d ∷ K) i ≡ from s ts (terminated d K) i
-statement_expression s ts i d K e = evaluation_is s ts i d K (leads s ts i L.Expression e)
+pub statement_expression : (s : List ℕ) (ts : List Token) (i d : ℕ) (K : List Sym) → Begins lead_of ts i d L.Expression → from s ts (statement d ∷ K) i ≡ from s ts (terminated d K) i
+statement_expression s ts i d K b = evaluation_is s ts i d K (leads s ts i (Some L.Expression) b.is)
 
 -- `return` with or without an expression
-returning : (s : List ℕ) (ts : List Token) (i d : ℕ) (K : List Sym) → d ≤ 32 → i < length ts → (c : LeadSees L.Return (tok_at s ts i)) → from s ts (statement d ∷ K) i ≡ from s ts (returned d c.0 ∷ K) (i + 1)
+returning : (s : List ℕ) (ts : List Token) (i d : ℕ) (K : List Sym) → d ≤ 32 → i < length ts → (c : LeadSees (Some L.Return) (tok_at s ts i)) → from s ts (statement d ∷ K) i ≡ from s ts (returned d c.0 ∷ K) (i + 1)
 returning s ts i d K h l c = stepping s ts i (statement d ∷ K) (word Return c.0) l c.1 ∙ shallow d i _ h
 
-pub statement_return_bare : (s : List ℕ) (ts : List Token) (i d : ℕ) (K : List Sym) → d ≤ 32 → i < length ts → L.Return ≡ lead_of (seen ts i) → is_kind (seen ts (i + 1)) Kinds.Semicolon ≡ true → from s ts (statement d ∷ K) i ≡ from s ts K (i + 2)
-statement_return_bare s ts i d K h l e n =
-    let c = leads s ts i L.Return e in let p = found s ts (i + 1) Kinds.Semicolon n in let y : i + 2 ≡ i + 1 + 1 = omega arith in
-    rw y (returning s ts i d K h l c ∙ stepping s ts (i + 1) (returned d c.0 ∷ K) (word Semicolon p.0) (found_inside ts (i + 1) Kinds.Semicolon n) p.1)
+pub statement_return_bare : (s : List ℕ) (ts : List Token) (i d : ℕ) (K : List Sym) → Begins lead_of ts i d L.Return → is_kind (seen ts (i + 1)) Kinds.Semicolon ≡ true → from s ts (statement d ∷ K) i ≡ from s ts K (i + 1 + 1)
+statement_return_bare s ts i d K b n =
+    let c = leads s ts i (Some L.Return) b.is in let p = found s ts (i + 1) Kinds.Semicolon n in
+    returning s ts i d K b.shallow b.inside c ∙ stepping s ts (i + 1) (returned d c.0 ∷ K) (word Semicolon p.0) (found_inside ts (i + 1) Kinds.Semicolon n) p.1
 
-pub statement_return : (s : List ℕ) (ts : List Token) (i d : ℕ) (K : List Sym) → d ≤ 32 → i < length ts → L.Return ≡ lead_of (seen ts i) → is_kind (seen ts (i + 1)) Kinds.Semicolon ≡ false → from s ts (statement d ∷ K) i ≡ from s ts (terminated d K) (i + 1)
-statement_return s ts i d K h l e n =
-    let c = leads s ts i L.Return e in let t = tok_at s ts (i + 1) in
+pub statement_return : (s : List ℕ) (ts : List Token) (i d : ℕ) (K : List Sym) → Begins lead_of ts i d L.Return → is_kind (seen ts (i + 1)) Kinds.Semicolon ≡ false → from s ts (statement d ∷ K) i ≡ from s ts (terminated d K) (i + 1)
+statement_return s ts i d K b n =
+    let c = leads s ts i (Some L.Return) b.is in let t = tok_at s ts (i + 1) in
     let a = at_none Semicolon t (word_at Semicolon s ts (i + 1) ∙ n) in
-    returning s ts i d K h l c ∙ alike s ts (i + 1) (returned d c.0 ∷ K) (terminated d K) t refl
+    returning s ts i d K b.shallow b.inside c ∙ alike s ts (i + 1) (returned d c.0 ∷ K) (terminated d K) t refl
     (λ j k. rw a (decide-onto (terminated d K) (returned d c.0 ∷ K) (λ vs. (return c.0 vs.0 vs.1.0, vs.1.1)) (expr_rule d t (token Semicolon ∷ K)) j k)) refl
 
 -- a name: an assignment, or an expression that begins with it
-naming : (s : List ℕ) (ts : List Token) (i d : ℕ) (K : List Sym) → d ≤ 32 → i < length ts → (c : LeadSees L.Name (tok_at s ts i)) → from s ts (statement d ∷ K) i ≡ from s ts (named d c.0 ∷ K) (i + 1)
+naming : (s : List ℕ) (ts : List Token) (i d : ℕ) (K : List Sym) → d ≤ 32 → i < length ts → (c : LeadSees (Some L.Name) (tok_at s ts i)) → from s ts (statement d ∷ K) i ≡ from s ts (named d c.0 ∷ K) (i + 1)
 naming s ts i d K h l c = stepping s ts i (statement d ∷ K) (name c.0) l c.1 ∙ shallow d i _ h
 
 assigning_to : (s : List ℕ) (ts : List Token) (i d : ℕ) (x : Ident) (K : List Sym) → i < length ts → AssignSees true (tok_at s ts i) → from s ts (named d x ∷ K) i ≡ from s ts (terminated d K) (i + 1)
 assigning_to s ts i d x K l (inl p) = stepping s ts i (named d x ∷ K) (word Assign p.0) l p.1
 assigning_to s ts i d x K l (inr p) = stepping s ts i (named d x ∷ K) (modifier p.0 p.1) l p.2
 
-pub statement_assign : (s : List ℕ) (ts : List Token) (i d : ℕ) (K : List Sym) → d ≤ 32 → i < length ts → i + 1 < length ts → L.Name ≡ lead_of (seen ts i) → true ≡ assigns_of (seen ts (i + 1)) → from s ts (statement d ∷ K) i ≡ from s ts (terminated d K) (i + 2)
-statement_assign s ts i d K h l m e n =
-    let c = leads s ts i L.Name e in let y : i + 2 ≡ i + 1 + 1 = omega arith in
-    rw y (naming s ts i d K h l c ∙ assigning_to s ts (i + 1) d c.0 K m (assigned s ts (i + 1) true n))
+pub statement_assign : (s : List ℕ) (ts : List Token) (i d : ℕ) (K : List Sym) → i + 1 < length ts → Begins lead_of ts i d L.Name → true ≡ assigns_of (seen ts (i + 1)) → from s ts (statement d ∷ K) i ≡ from s ts (terminated d K) (i + 1 + 1)
+statement_assign s ts i d K m b n =
+    let c = leads s ts i (Some L.Name) b.is in
+    naming s ts i d K b.shallow b.inside c ∙ assigning_to s ts (i + 1) d c.0 K m (assigned s ts (i + 1) true n)
 
-pub statement_named : (s : List ℕ) (ts : List Token) (i d : ℕ) (K : List Sym) → d ≤ 32 → i < length ts → L.Name ≡ lead_of (seen ts i) → false ≡ assigns_of (seen ts (i + 1)) → from s ts (statement d ∷ K) i ≡ from s ts (terminated d K) i
-statement_named s ts i d K h l e n =
-    let c = leads s ts i L.Name e in let x = c.0 in let t = tok_at s ts (i + 1) in
+pub statement_named : (s : List ℕ) (ts : List Token) (i d : ℕ) (K : List Sym) → Begins lead_of ts i d L.Name → false ≡ assigns_of (seen ts (i + 1)) → from s ts (statement d ∷ K) i ≡ from s ts (terminated d K) i
+statement_named s ts i d K b n =
+    let c = leads s ts i (Some L.Name) b.is in let x = c.0 in let t = tok_at s ts (i + 1) in
     let L' = called d x ∷ tails_to 6 d (token Semicolon ∷ K) in
     let a = assigned s ts (i + 1) false n in
     let f = alike s ts (i + 1) (named d x ∷ K) L' t refl
     (λ j k. rw a (decide-onto L' (named d x ∷ K) (λ vs. let g = gather 6 d (token Semicolon ∷ K) vs.0 vs.1 in (evaluate g.0 g.1.0, g.1.1)) (step L' t) j k)) refl in
-    let g = expression_is s ts i d (token Semicolon ∷ K) ∙ stepping s ts i (operands 6 d (token Semicolon ∷ K)) (name x) l c.1 ∙ shallow d i _ h in
-    naming s ts i d K h l c ∙ f ∙ sym g
+    let g = expression_is s ts i d (token Semicolon ∷ K) ∙ stepping s ts i (operands 6 d (token Semicolon ∷ K)) (name x) b.inside c.1 ∙ shallow d i _ b.shallow in
+    naming s ts i d K b.shallow b.inside c ∙ f ∙ sym g
 
 -- statements in a row, and `else`
 pub statements_end : (s : List ℕ) (ts : List Token) (i d : ℕ) (K : List Sym) → is_kind (seen ts i) Kinds.CloseBrace ≡ true → from s ts (a_block d K) i ≡ from s ts K (i + 1)

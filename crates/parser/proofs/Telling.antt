@@ -1,14 +1,20 @@
 -- What the code tells is the grammar's verdict.
 use Rattle.std.proofs.Common.{◌≡◌, ℕ, zero, suc, ◌<◌, ◌≤◌, ◌⊎◌, List, [], ◌∷◌, length, get_or, sym, refl, ap, ◌∙◌, subst, inl, inr, arith}
-use Rattle.refusal.specs.Told.{Told, accepted, refused}
+use Rattle.std.proofs.Common.{Ok, Err, Result, Some, None, Option}
+use Rattle.std.specs.Option.{MatchOption}
+use Rattle.std.specs.List.{HoldsAt}
+use Rattle.std.specs.Result.{OkIff, result_unwrap_or, MatchResult, IsErrAnd}
+use Rattle.std.proofs.lemmas.Result.{err_from_is_err_and}
+use Rattle.refusal.specs.declared.reason.Refusal.{Refusal}
+use Rattle.refusal.specs.Told.{Told, accepted, refused, number_of, told}
 use Rattle.lexer.specs.Lexeme.{Lexeme}
 use Rattle.lexer.specs.Reading.{lexemes}
 use Rattle.lexer.specs.declared.kind.Token.{Token}
 use Rattle.meaning.proofs.Judge.{Outcome}
 use Rattle.meaning.proofs.Judge as Judge
-use Rattle.meaning.proofs.Verdicts.{verdict, unexpected_at, ends_early, too_deep_at, reads_accepted, unexpected_refused, early_refused, too_deep_refused, refusal_is}
+use Rattle.meaning.proofs.Verdicts.{verdict, accepted_reads, unexpected_at, ends_early, too_deep_at, reads_accepted, unexpected_refused, early_refused, too_deep_refused, refusal_is}
 use Rattle.parser.specs.Verdict.{place_at, end_place, Wrong, unexpected, early, deep, Verdict, OneVerdict}
-use Rattle.parser.specs.Steps.{place_by, fault_number, fault_at, faulted}
+use Rattle.parser.specs.Steps.{place_by, fault_number, fault_at, faulted, outcome_of}
 use Rattle.parser.specs.declared.fault.Fault.{Fault}
 use Rattle.parser.specs.declared.fault.Fault.TheVariants.{Unexpected, TooDeep}
 
@@ -62,3 +68,20 @@ verdict_is ls n (refused m p) v = wrong_is ls n m p v
 
 pub one-verdict : OneVerdict
 one-verdict ls n x y v w = verdict_is ls n x v ∙ sym (verdict_is ls n y w)
+
+-- the end as code tells it
+pub end_told : {E : Type 0} (r : Result ℕ E) (n : ℕ) → OkIff r (n < 4294967296) n → result_unwrap_or r 4294967295 ≡ end_place n
+end_told (Ok m) n h = grind arith
+end_told (Err e) n h = grind arith
+
+-- what is told of all the tokens
+pub verdict_told : {Q : Fault → Refusal → Type 0} (ls : List Lexeme) (n : ℕ) (w : Result (Unit {0}) Fault) (r : Result (Unit {0}) Refusal) → verdict ls ≡ outcome_of w
+    → MatchResult w (λ u. r ≡ Ok u) (λ f. IsErrAnd r (Q f)) → ((f : Fault) (x : Refusal) → Q f x → (number_of x.reason ≡ fault_number f) × (x.place ≡ place_by ls n (fault_at f))) → Verdict ls n (told r)
+verdict_told ls n (Ok u) r v h q = rw h (accepted_reads ls v)
+verdict_told ls n (Err f) r v h q = let p = err_from_is_err_and r h in let t = q f p.0 p.2 in rw (p.1, t.0, t.1) (wrong ls n f v)
+
+-- the place of a token that may be there
+pub place_told : {X : Type 0} (now : X → Token) {Q : X → Type 0} (s : List ℕ) (ts : List Token) (n i e r : ℕ) (o : Option X)
+    → MatchOption o (length ts ≤ i) (λ x. (i < length ts) × HoldsAt (λ y. now x ≡ y) ts i) → MatchOption o (r ≡ e) Q → ((x : X) → Q x → r ≡ (now x).place) → e ≡ end_place n → r ≡ place_by (lexemes s ts) n i
+place_told now s ts n i e r None h k q f = k ∙ f ∙ place_past s ts n i h
+place_told now s ts n i e r (Some x) h k q f = q x k ∙ ap (λ (t : Token). t.place) (h.1 (now x)) ∙ place_in s ts n i (now x) h.0

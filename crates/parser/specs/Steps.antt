@@ -1,7 +1,6 @@
 -- What a part of the parser has read, in terms of the machine that reads scripts.
-use Rattle.std.specs.Prelude.{◌≡◌, ℕ, zero, suc, ◌+◌, Bool, true, false, cond, List, [], ◌∷◌, drop, None, Ok, Err, Result, nat_lt}
+use Rattle.std.specs.Prelude.{◌≡◌, ℕ, zero, suc, ◌+◌, ◌-◌, ◌<◌, ◌≤◌, List, [], ◌∷◌, length, drop, cond, Some, None, Option, Ok, Err, Result, IfOk, nat_lt}
 use Rattle.lexer.specs.Lexeme.{Lexeme}
-use Rattle.lexer.specs.declared.kind.Token.{Token}
 use Rattle.lexer.specs.Reading.{lexemes}
 use Rattle.lexer.specs.declared.kind.Kind.{Kind}
 use Rattle.lexer.specs.declared.kind.Kind.TheVariants as K
@@ -9,11 +8,8 @@ use Rattle.meaning.proofs.Tokens.{OpenBrace, OpenParen, CloseParen, CloseBrace, 
 use Rattle.meaning.proofs.Stack.{Sym, token, a_name, a_constant, a_result, an_int, parameter, operand, called, tail, expr, exprs, further, arguments, statement, named, returned, statements, orelse, script, declared, integer, mainly, tails_to}
 use Rattle.meaning.proofs.Judge.{Outcome, accepted, refused, judge}
 use Rattle.lookahead.specs.Seen.{past_main}
-use Rattle.lookahead.specs.declared.class.Lead.{Lead}
-use Rattle.lookahead.specs.declared.class.Lead.TheVariants as L
-use Rattle.lookahead.specs.declared.class.Start.{Start}
-use Rattle.lookahead.specs.declared.class.Start.TheVariants as S
 use Rattle.parser.specs.Verdict.{end_place}
+use Rattle.parser.specs.declared.cursor.Cursor.{Cursor}
 use Rattle.parser.specs.declared.fault.Fault.{Fault}
 use Rattle.parser.specs.declared.fault.Fault.TheVariants.{Unexpected, TooDeep}
 
@@ -22,40 +18,40 @@ abbrev pub faulted : Fault → Outcome
 faulted (Unexpected k) = refused 9 k
 faulted (TooDeep k) = refused 10 k
 
+-- the place after the next token
+abbrev pub past : Cursor → Cursor
+past c = record c { at = c.at + 1 }
+
+-- how many tokens are left at a place
+abbrev pub left : Cursor → ℕ
+left c = length c.text.tokens.now - c.at
+
+-- the verdict of a machine with the stack K on the tokens left at a place
+abbrev pub ahead : List ℕ → Cursor → List Sym → Outcome
+ahead s c K = judge K c.at (drop c.at (lexemes s c.text.tokens.now))
+
 -- the verdict, where what stands before K was read as the answer says
-abbrev pub resumed : List ℕ → List Token → List Sym → Result ℕ Fault → Outcome
-resumed s ts K (Ok q) = judge K q (drop q (lexemes s ts))
-resumed s ts K (Err f) = faulted f
+abbrev pub resumed : List ℕ → List Sym → Result Cursor Fault → Outcome
+resumed s K (Ok q) = ahead s q K
+resumed s K (Err f) = faulted f
 
 -- The answer r says where the symbols that F puts before a stack end, or the first fault in them.
-abbrev pub Parses : (List Sym → List Sym) → List Token → ℕ → Result ℕ Fault → Type 0
-Parses F ts at r = (s : List ℕ) (K : List Sym) → judge (F K) at (drop at (lexemes s ts)) ≡ resumed s ts K r
+abbrev pub Parses : (List Sym → List Sym) → Cursor → Result Cursor Fault → Type 0
+Parses F c r = (s : List ℕ) (K : List Sym) → ahead s c (F K) ≡ resumed s K r
 
--- whether something may begin at a token, and else the fault: nothing begins there, or it would lie too deep
-abbrev pub admission : Bool → ℕ → ℕ → Result (Unit {0}) Fault
-admission begins at d = cond begins (cond (nat_lt 32 d) (Err (TooDeep at)) (Ok tt)) (Err (Unexpected at))
+-- The answer r, if it is a place, is one further on within the same text.
+abbrev pub Onward : Cursor → Result Cursor Fault → Type 0
+Onward c r = IfOk r (λ q. (q.text ≡ c.text) × (left q < left c) × (q.at ≤ length q.text.tokens.now))
 
--- whether an operand begins so
-abbrev pub begins_operand : Start → Bool
-begins_operand S.Name = true
-begins_operand S.Constant = true
-begins_operand S.Prefix = true
-begins_operand S.Bracket = true
-begins_operand S.Nothing = false
+-- What F puts before a stack is read, from the place c to the answer r.
+pub record Reads (F : List Sym → List Sym) (c : Cursor) (r : Result Cursor Fault) : Type 0 where
+  pub onward : Onward c r
+  pub same : Parses F c r
 
--- whether a statement begins so
-abbrev pub begins_statement : Lead → Bool
-begins_statement L.Block = true
-begins_statement L.Definition = true
-begins_statement L.Name = true
-begins_statement L.If = true
-begins_statement L.While = true
-begins_statement L.Do = true
-begins_statement L.For = true
-begins_statement L.Jump = true
-begins_statement L.Return = true
-begins_statement L.Expression = true
-begins_statement L.Nothing = false
+-- what begins at a token, if it may, and else the fault: nothing begins there, or it would lie too deep
+abbrev pub admission : {T : Type 0} → Option T → ℕ → ℕ → Result T Fault
+admission None at d = Err (Unexpected at)
+admission (Some x) at d = cond (nat_lt 32 d) (Err (TooDeep at)) (Ok x)
 
 -- A, read by itself
 abbrev pub one : Sym → List Sym → List Sym
@@ -177,12 +173,13 @@ abbrev pub main_rest : List Sym → List Sym
 main_rest K = token CloseParen ∷ token OpenBrace ∷ a_block 1 K
 
 -- one item is read, where main does not begin
-abbrev pub ReadsItem : List Token → ℕ → Result ℕ Fault → Type 0
-ReadsItem ts at r = (s : List ℕ) (K : List Sym) → past_main s ts at ≡ None → judge (script ∷ K) at (drop at (lexemes s ts)) ≡ resumed s ts (script ∷ K) r
+pub record ReadsItem (c : Cursor) (r : Result Cursor Fault) : Type 0 where
+  pub onward : Onward c r
+  pub same : (s : List ℕ) (K : List Sym) → past_main s c.text.tokens.now c.at ≡ None → ahead s c (script ∷ K) ≡ resumed s (script ∷ K) r
 
--- all is read, of this source
-abbrev pub ReadsScript : List ℕ → List Token → Result ℕ Fault → Type 0
-ReadsScript s ts r = (K : List Sym) → judge (script ∷ K) 0 (drop 0 (lexemes s ts)) ≡ resumed s ts K r
+-- all is read, of the source of this text
+abbrev pub ReadsScript : Cursor → Result Cursor Fault → Type 0
+ReadsScript c r = (K : List Sym) → ahead c.text.source.now c (script ∷ K) ≡ resumed c.text.source.now K r
 
 -- the verdict on all the tokens
 abbrev pub outcome_of : Result (Unit {0}) Fault → Outcome

@@ -2,7 +2,6 @@
 #![tactic(auto)]
 
 mod cursor;
-mod depth;
 mod expression;
 mod fault;
 mod script;

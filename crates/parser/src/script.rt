@@ -1,108 +1,110 @@
 // Scripts: externs and globals, then main.
-ghost use Rattle.std.specs.Prelude.{◌≡◌, ◌+◌, ◌<◌, ◌≤◌, true, length, IfOk};
-ghost use Rattle.parser.specs.Steps.{Parses, an_initializer, parameters, an_extern, main_rest, ReadsItem, ReadsScript, outcome_of};
+ghost use Rattle.std.specs.Prelude.{◌≡◌};
+ghost use Rattle.parser.specs.Steps.{Reads, one, an_initializer, parameters, an_extern, main_rest, ReadsItem, ReadsScript, outcome_of, a_script};
 ghost use Rattle.lexer.specs.Reading.{lexemes};
 ghost use Rattle.meaning.proofs.Judge.{judge};
-ghost use Rattle.parser.specs.Steps.{a_script};
+ghost use Rattle.meaning.proofs.Stack.{a_constant, a_result};
 
-use crate::cursor::expect;
+use crate::cursor::Cursor;
 use crate::fault::Fault;
-use crate::statement::block;
-use lexer::{Kind, Token};
-use lookahead::{constant_at, is_at, past_main, past_static, result_at, scalar_at};
+use lexer::Kind;
+use lookahead::Text;
 
-// A constant for a global, from `=` to `;`.
-fn initializer(tokens: &[Token], at: usize) -> Result<usize, Fault>
-    ensures within { IfOk result (λ q. (at < q) × (q ≤ length tokens.now)) }
-    ensures same { Parses an_initializer tokens.now at result }
-{
-    let value = expect(tokens, at, Kind::Assign)?;
-    if constant_at(tokens, value) {
-        expect(tokens, value + 1, Kind::Semicolon)
-    } else {
-        Err(Fault::Unexpected(value))
+impl<'a> Cursor<'a> {
+    // Passes a constant.
+    fn constant(self) -> Result<Cursor<'a>, Fault>
+        ensures { Reads (one a_constant) self.entry result }
+    {
+        self.pass_if(self.text.constant_at(self.at))
     }
-}
 
-// What an extern takes, and the bracket that closes it.
-fn parameter(tokens: &[Token], at: usize) -> Result<usize, Fault>
-    ensures within { IfOk result (λ q. (at < q) × (q ≤ length tokens.now)) }
-    ensures same { Parses parameters tokens.now at result }
-{
-    if is_at(tokens, at, Kind::CloseParen) {
-        return Ok(at + 1);
+    // Passes what an extern gives.
+    fn given(self) -> Result<Cursor<'a>, Fault>
+        ensures { Reads (one a_result) self.entry result }
+    {
+        self.pass_if(self.text.result_at(self.at))
     }
-    if scalar_at(tokens, at) {
-        let close = expect(tokens, at + 1, Kind::Name)?;
-        expect(tokens, close, Kind::CloseParen)
-    } else {
-        Err(Fault::Unexpected(at))
-    }
-}
 
-// An extern after its keyword.
-fn external(tokens: &[Token], at: usize) -> Result<usize, Fault>
-    ensures within { IfOk result (λ q. (at < q) × (q ≤ length tokens.now)) }
-    ensures same { Parses an_extern tokens.now at result }
-{
-    if result_at(tokens, at) {
-        let open = expect(tokens, at + 1, Kind::Name)?;
-        let inside = expect(tokens, open, Kind::OpenParen)?;
-        let end = parameter(tokens, inside)?;
-        expect(tokens, end, Kind::Semicolon)
-    } else {
-        Err(Fault::Unexpected(at))
+    // A constant for a global, from `=` to `;`.
+    fn initializer(self) -> Result<Cursor<'a>, Fault>
+        ensures { Reads an_initializer self.entry result }
+    {
+        self.expect(Kind::Assign)?
+            .constant()?
+            .expect(Kind::Semicolon)
     }
-}
 
-// An extern or a global, where main does not begin.
-fn item(tokens: &[Token], at: usize) -> Result<usize, Fault>
-    ensures within { IfOk result (λ q. (at < q) × (q ≤ length tokens.now)) }
-    ensures same { ReadsItem tokens.now at result }
-{
-    if is_at(tokens, at, Kind::Extern) {
-        return external(tokens, at + 1);
+    // What an extern takes, and the bracket that closes it.
+    fn parameter(self) -> Result<Cursor<'a>, Fault>
+        ensures { Reads parameters self.entry result }
+    {
+        if self.is(Kind::CloseParen) {
+            Ok(self.next())
+        } else {
+            self.pass_if(self.text.scalar_at(self.at))?
+                .expect(Kind::Name)?
+                .expect(Kind::CloseParen)
+        }
     }
-    let start = past_static(tokens, at);
-    if scalar_at(tokens, start) {
-        let value = expect(tokens, start + 1, Kind::Name)?;
-        initializer(tokens, value)
-    } else {
-        Err(Fault::Unexpected(start))
+
+    // An extern after its keyword.
+    fn external(self) -> Result<Cursor<'a>, Fault>
+        ensures { Reads an_extern self.entry result }
+    {
+        self.given()?
+            .expect(Kind::Name)?
+            .expect(Kind::OpenParen)?
+            .parameter()?
+            .expect(Kind::Semicolon)
     }
-}
 
-// Main from its closing bracket on.
-fn main_rest(tokens: &[Token], at: usize) -> Result<usize, Fault>
-    ensures within { IfOk result (λ q. (at < q) × (q ≤ length tokens.now)) }
-    ensures same { Parses main_rest tokens.now at result }
-{
-    let open = expect(tokens, at, Kind::CloseParen)?;
-    let body = expect(tokens, open, Kind::OpenBrace)?;
-    block(tokens, body, 1)
-}
+    // An extern or a global, where main does not begin.
+    fn item(self) -> Result<Cursor<'a>, Fault>
+        ensures { ReadsItem self.entry result }
+    {
+        if self.is(Kind::Extern) {
+            return self.next().external();
+        }
+        let start = Cursor {
+            at: self.text.past_static(self.at),
+            ..self
+        };
+        start
+            .pass_if(start.text.scalar_at(start.at))?
+            .expect(Kind::Name)?
+            .initializer()
+    }
 
-// A script, from its first token on.
-fn script(source: &[u8], tokens: &[Token]) -> Result<usize, Fault>
-    ensures within { IfOk result (λ q. q ≤ length tokens.now) }
-    ensures same { ReadsScript source.now tokens.now result }
-{
-    let mut at = 0;
-    'items: loop {
-        match past_main(source, tokens, at) {
-            Some(rest) => return main_rest(tokens, rest),
-            None => at = item(tokens, at)?,
+    // Main from its closing bracket on.
+    fn main_rest(self) -> Result<Cursor<'a>, Fault>
+        ensures { Reads main_rest self.entry result }
+    {
+        self.expect(Kind::CloseParen)?
+            .expect(Kind::OpenBrace)?
+            .block(1)
+    }
+
+    // A script, from its first token on.
+    fn script(self) -> Result<Cursor<'a>, Fault>
+        ensures { ReadsScript self.entry result }
+    {
+        let mut item = self;
+        'items: loop {
+            match item.text.past_main(item.at) {
+                Some(at) => return Cursor { at, ..item }.main_rest(),
+                None => item = item.item()?,
+            }
         }
     }
 }
 
 // A script, and nothing after it.
-pub(crate) fn whole(source: &[u8], tokens: &[Token]) -> Result<(), Fault>
-    ensures { judge a_script 0 (lexemes source.now tokens.now) ≡ outcome_of result }
+pub(crate) fn whole(text: Text) -> Result<(), Fault>
+    ensures { judge a_script 0 (lexemes text.entry.source.now text.entry.tokens.now) ≡ outcome_of result }
 {
-    let end = script(source, tokens)?;
-    if end < tokens.len() {
-        Err(Fault::Unexpected(end))
+    let end = Cursor { text, at: 0 }.script()?;
+    if end.at < end.text.tokens.len() {
+        Err(end.unexpected())
     } else {
         Ok(())
     }

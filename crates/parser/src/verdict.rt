@@ -8,33 +8,25 @@ ghost use Rattle.parser.specs.Verdict.{Verdict, OneVerdict};
 use crate::fault::Fault;
 use crate::script::whole;
 use lexer::Token;
+use lookahead::Text;
 use refusal::{Reason, Refusal};
 
 // The place of the token at `at`, or the source's end where there is none.
-fn place_at(source: &[u8], tokens: &[Token], at: usize) -> u32
-    ensures { result ≡ place_by (lexemes source.now tokens.now) (length source.now) at }
+fn place_at(text: Text, at: usize) -> u32
+    ensures { result ≡ place_by (lexemes text.entry.source.now text.entry.tokens.now) (length text.entry.source.now) at }
 {
-    if at < tokens.len() {
-        tokens[at].place
-    } else {
-        source.len().min(u32::MAX as usize) as u32
-    }
+    let end = u32::try_from(text.source.len()).unwrap_or(u32::MAX);
+    text.tokens.get(at).map_or(end, |token| token.place)
 }
 
 // A fault as it is told.
-fn refusal_of(source: &[u8], tokens: &[Token], fault: Fault) -> Refusal
+fn refusal_of(text: Text, fault: Fault) -> Refusal
     ensures number { number_of result.reason ≡ fault_number fault }
-    ensures place { result.place ≡ place_by (lexemes source.now tokens.now) (length source.now) (fault_at fault) }
+    ensures place { result.place ≡ place_by (lexemes text.entry.source.now text.entry.tokens.now) (length text.entry.source.now) (fault_at fault) }
 {
     match fault {
-        Fault::Unexpected(at) => Refusal {
-            reason: Reason::UnexpectedToken,
-            place: place_at(source, tokens, at),
-        },
-        Fault::TooDeep(start) => Refusal {
-            reason: Reason::TooDeep,
-            place: place_at(source, tokens, start),
-        },
+        Fault::Unexpected(at) => Reason::UnexpectedToken.at(place_at(text, at)),
+        Fault::TooDeep(at) => Reason::TooDeep.at(place_at(text, at)),
     }
 }
 
@@ -44,8 +36,6 @@ pub fn parse(source: &[u8], tokens: &[Token]) -> Result<(), Refusal>
     ensures verdict { Verdict (lexemes source.now tokens.now) (length source.now) (told result) }
     ensures only { OneVerdict }
 {
-    match whole(source, tokens) {
-        Ok(()) => Ok(()),
-        Err(fault) => Err(refusal_of(source, tokens, fault)),
-    }
+    // The closure takes the two lists: of what one that takes a text answers, the proof learns nothing.
+    whole(Text { source, tokens }).map_err(|fault| refusal_of(Text { source, tokens }, fault))
 }

@@ -1,9 +1,9 @@
-use Rattle.std.proofs.Common.{◌∙◌}
-use Rattle.parser.proofs.Telling.{place_in, place_past}
+use Rattle.std.proofs.Common.{◌∙◌, Bor, rules}
+use Rattle.lexer.specs.declared.kind.Token.{Token}
+use Rattle.parser.proofs.Telling.{place_told, end_told}
 use Rattle.parser.proofs.verdict.place_at.Goals as goal
 
-pub returns-then-at-tokens : goal.returns-then-at-tokens
-returns-then-at-tokens c = place_in c.args.source.now c.args.tokens.now _ c.args.at _ c.if-at-tokens.true
-
-pub returns-else-at-tokens : goal.returns-else-at-tokens
-returns-else-at-tokens c = c.min.ensures ∙ place_past c.args.source.now c.args.tokens.now _ c.args.at c.if-at-tokens.false
+pub returns : goal.returns
+returns c =
+    let h = c.get.ensures.lookup in
+    place_told (λ (x : Bor Token). x.now) _ _ _ _ _ _ _ h.3 c.map_or.ensures (λ x q. search rules) (c.unwrap_or-end.ensures ∙ end_told _ _ c.try_from.ensures)
