@@ -1,5 +1,4 @@
 pub mod Tops
-pub mod Moving
 pub mod Landing
 pub mod Stepping
 pub mod Falls

@@ -1,20 +1,13 @@
 -- The loop of a run: what it keeps from turn to turn.
-use Rattle.std.proofs.Common.{◌≡◌, ℕ, ◌+◌, ◌-◌, ◌<◌, ◌≤◌, List, length, Some, None, Option, sym, refl, ap, ◌∙◌, subst, add-zero, zero-add, arith}
-use Rattle.std.specs.List.{slice_get}
-use Rattle.boards.specs.Meaning.{Meaning}
-use Rattle.machine.specs.declared.cursor.Cursor.{Cursor}
-use Rattle.machine.specs.declared.flow.Flow.{Flow}
-use Rattle.machine.specs.declared.flow.Flow.TheVariants.{Goes, Waits, Ends, Breaks}
+use Rattle.std.proofs.Common.{◌≡◌, ℕ, ◌+◌, ◌-◌, ◌≤◌, List, sym, ap, ◌∙◌, zero-add, arith}
+use Rattle.machine.specs.declared.stop.Stop.{Stop}
+use Rattle.machine.specs.declared.stop.Stop.TheVariants.{Waits, Ends, Breaks}
 use Rattle.machine.specs.declared.instruction.Instruction.{Instruction}
-use Rattle.machine.specs.declared.memory.Memory.{Memory}
-use Rattle.machine.specs.Endings.{End}
-use Rattle.machine.specs.Operations.{Store, How, ends, waits, breaks}
-use Rattle.machine.specs.Steps.{State, Next, go, stop, wait, break, fetched, step}
+use Rattle.machine.specs.Endings.{end_of}
+use Rattle.machine.specs.Operations.{How}
+use Rattle.machine.specs.Steps.{State, go, step}
 use Rattle.machine.specs.Runs.{Ran, ran, later, run, up_to}
-use Rattle.machine.specs.Views.{state_of, next_of}
-use Rattle.machine.proofs.Tops.{length-tops}
-use Rattle.machine.proofs.Falls.{inside}
-use Rattle.machine.proofs.Working.{Same, Still, step_still}
+use Rattle.machine.specs.Views.{stop_of, stopped, carried_of}
 use Rattle.machine.proofs.Equations.{run_go, run_stop, run_wait, run_break}
 
 -- the run from the start is the run from here, after the instructions counted so far:
@@ -24,46 +17,6 @@ pub record Loop (code : List Instruction) (before : ℕ) (first here : State) (s
   pub counts : counted ≡ up_to (before + carried)
   pub since : start ≤ here.position
   pub same : run code first ≡ later (carried + (here.position - start)) (run code here)
-
--- a step by how it came out
-pub turned_to : (x : Next) (v : State) (f : Flow) {g : Flow} → next_of f v ≡ x → f ≡ g → x ≡ next_of g v
-turned_to x v f e is = sym e ∙ ap (λ (h : Flow). next_of h v) is
-
--- a step that goes on or stops had an instruction
-fetched_inside : (code : List Instruction) (u : State) → (step code u ≡ break u → ⊥) → u.position < length code
-fetched_inside code u f = by (slice_get code u.position) refl
-  where
-    by : (o : Option Instruction) → slice_get code u.position ≡ o → u.position < length code
-    by None e = absurd (f (ap (fetched code u) e))
-    by (Some i) e = inside code u.position i e
-
-pub inside_go : (code : List Instruction) (u v : State) → step code u ≡ go v → u.position < length code
-inside_go code u v e = fetched_inside code u (λ f. let z : ◌≡◌ {A = ℕ} 0 1 = cc in omega arith)
-
-pub inside_stop : (code : List Instruction) (u v : State) (d : End) → step code u ≡ stop d v → u.position < length code
-inside_stop code u v d e = fetched_inside code u (λ f. let z : ◌≡◌ {A = ℕ} 0 1 = cc in omega arith)
-
--- what does not go on
-abbrev pub Stopped : Flow → Type 0
-Stopped Goes = ⊥
-Stopped Waits = Unit {0}
-Stopped (Ends e) = Unit {0}
-Stopped Breaks = Unit {0}
-
-still_same : (u v : State) (f : Flow) → Stopped f → Still u (next_of f v) → Same u v
-still_same u v Goes h s = absurd h
-still_same u v Waits h s = s
-still_same u v (Ends e) h s = s
-still_same u v Breaks h s = s
-
--- after a step that does not go on the cursor is the one before it
-pub same_cursor : (code : List Instruction) (m n : Memory) (from to : Cursor) (b c : Meaning) (f : Flow)
-    → next_of f (state_of n to c) ≡ step code (state_of m from b) → Stopped f → state_of n from c ≡ state_of n to c
-same_cursor code m n from to b c f e h =
-    let s = still_same (state_of m from b) (state_of n to c) f h (subst (Still (state_of m from b)) (sym e) (step_still code (state_of m from b))) in
-    let high : to.height ≡ from.height
-    = sym (length-tops n.values to.height) ∙ ap (λ (x : Store). length x.stack) s.store ∙ length-tops m.values from.height in
-    rw (high, s.position, s.left)
 
 module _ (code : List Instruction) (before : ℕ) (first : State) where
   pub begins : (u : State) → first ≡ u → (start counted : ℕ) → start ≡ u.position → counted ≡ before → before ≤ 18446744073709551615
@@ -109,14 +62,12 @@ module _ (code : List Instruction) (before : ℕ) (first : State) where
         let same : run code first ≡ ran h v ((l.carried + (u.position - start)) + n) = l.same ∙ ap (later (l.carried + (u.position - start))) e in
         (ap (λ (r : Ran). r.how) (sym same), ap (λ (r : Ran). r.state) (sym same), rw (same, c, l.counts) (omega arith))
 
-    pub ended_same : (d : End) (k : ℕ) → step code u ≡ stop d v → k ≡ up_to (counted + ((u.position - start) + 1))
-        → (ends d ≡ (run code first).how) × (v ≡ (run code first).state) × (k ≡ up_to (before + (run code first).carried))
-    ended_same d k e c = last_same (ends d) 1 k (run_stop code u v d e) c
-
-    pub waited_same : (k : ℕ) → step code u ≡ wait v → k ≡ up_to (counted + (u.position - start))
-        → (waits ≡ (run code first).how) × (v ≡ (run code first).state) × (k ≡ up_to (before + (run code first).carried))
-    waited_same k e c = last_same waits 0 k (run_wait code u v e) (rw c (ap (λ n. up_to (counted + n)) (sym (add-zero (u.position - start)))))
-
-    pub broke_same : (k : ℕ) → step code u ≡ break v → k ≡ up_to (counted + (u.position - start))
-        → (breaks ≡ (run code first).how) × (v ≡ (run code first).state) × (k ≡ up_to (before + (run code first).carried))
-    broke_same k e c = last_same breaks 0 k (run_break code u v e) (rw c (ap (λ n. up_to (counted + n)) (sym (add-zero (u.position - start)))))
+    -- whatever stopped it
+    pub stopped_same : (s : Stop) (k : ℕ) → step code u ≡ stopped s v → k ≡ up_to (counted + ((u.position - start) + carried_of s))
+        → (stop_of s ≡ (run code first).how) × (v ≡ (run code first).state) × (k ≡ up_to (before + (run code first).carried))
+    stopped_same s k e c = last_same (stop_of s) (carried_of s) k (run_stopped s e) c
+      where
+        run_stopped : (s : Stop) → step code u ≡ stopped s v → run code u ≡ ran (stop_of s) v (carried_of s)
+        run_stopped Waits e = run_wait code u v e
+        run_stopped (Ends d) e = run_stop code u v (end_of d) e
+        run_stopped Breaks e = run_break code u v e

@@ -1,5 +1,5 @@
 -- The instructions by their codes.
-use Rattle.std.specs.Prelude.{ℕ, Bool, false, ◌||◌, List, [], ◌∷◌, ℤ, pos, negsuc, Some, None, Option, nat_lt, slice_index_or}
+use Rattle.std.specs.Prelude.{◌≡◌, ◌≢◌, ℕ, Bool, false, ◌||◌, List, [], ◌∷◌, ℤ, pos, negsuc, Some, None, Option, Result, MatchResult, nat_lt, slice_index_or}
 use Rattle.std.specs.List.{slice_get}
 use Rattle.ints.specs.Arith.{equal_z}
 use Rattle.ints.specs.declared.operator.Operator.{Operator}
@@ -7,6 +7,38 @@ use Rattle.ints.specs.declared.operator.Operator.TheVariants.{Add, Sub, Mul, Div
 use Rattle.ints.specs.declared.operator.Unary.{Unary}
 use Rattle.ints.specs.declared.operator.Unary.TheVariants.{Low, Not}
 use Rattle.machine.specs.declared.instruction.Instruction.{Instruction}
+use Rattle.machine.specs.declared.op.Op.{Op}
+use Rattle.machine.specs.declared.op.Op.TheVariants as O
+use Rattle.machine.specs.declared.op.UnknownCode.{UnknownCode}
+
+-- the number of each instruction
+abbrev pub code_of : Op → ℕ
+code_of O.Push = 0
+code_of O.Load = 1
+code_of O.Store = 2
+code_of O.Pop = 3
+code_of O.Add = 4
+code_of O.Subtract = 5
+code_of O.Multiply = 6
+code_of O.Divide = 7
+code_of O.Remainder = 8
+code_of O.Low = 9
+code_of O.Less = 10
+code_of O.Greater = 11
+code_of O.Equal = 12
+code_of O.Not = 13
+code_of O.Jump = 14
+code_of O.JumpIfZero = 15
+code_of O.Tick = 16
+code_of O.Zone = 17
+code_of O.Columns = 18
+code_of O.Rows = 19
+code_of O.Report = 20
+code_of O.Return = 21
+
+-- the result is the instruction with this number, or says that none has it
+abbrev pub Names : ℤ → Result Op UnknownCode → Type 0
+Names code r = MatchResult r (λ op. code ≡ pos (code_of op)) (λ e. (e.0 ≡ code) × ((op : Op) → code ≢ pos (code_of op)))
 
 -- what works on cells and values alone
 pub data Plain : Type 0 where

@@ -1,5 +1,5 @@
 -- How a run ends.
-use Rattle.std.specs.Prelude.{ℕ, Bool, ℤ, pos, ◌==◌}
+use Rattle.std.specs.Prelude.{ℕ, Bool, List, ℤ, pos, ◌==◌, codes}
 use Rattle.refusal.specs.Told.{number_of}
 use Rattle.machine.specs.declared.ending.Ending.{Ending}
 use Rattle.machine.specs.declared.ending.Ending.TheVariants.{Returned, Waiting, Divided, Board, Broken}
@@ -36,6 +36,14 @@ end_of Waiting = waiting
 end_of Divided = divided
 end_of (Board reason) = refused_by (number_of reason)
 end_of Broken = broken
+
+-- the bytes of each case's name
+abbrev pub name_of : Ending → List ℕ
+name_of (Returned v) = codes "returned"
+name_of Waiting = codes "waiting"
+name_of Divided = codes "divided"
+name_of (Board reason) = codes "board"
+name_of Broken = codes "broken"
 
 -- a run that waits can go on, any other is over
 abbrev pub is_waiting : End → Bool

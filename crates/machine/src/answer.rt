@@ -2,7 +2,7 @@
 use crate::ending::Ending;
 
 // How a run ended or waits, and where; the ticks spent and the instructions counted since the start.
-#[derive(Clone, Copy)]
+#[derive(Clone, Copy, PartialEq, Eq, Debug)]
 pub struct Answer {
     pub ending: Ending,
     pub place: i32,
@@ -11,15 +11,8 @@ pub struct Answer {
 }
 
 // How a run that is over ended, and where.
-#[derive(Clone, Copy)]
+#[derive(Clone, Copy, PartialEq, Eq, Debug)]
 pub struct Ended {
     pub ending: Ending,
     pub place: i32,
-}
-
-// What one step answers: the ticks that are left where the run goes on.
-#[derive(Clone, Copy)]
-pub enum Step {
-    Goes(u32),
-    Stops(Answer),
 }

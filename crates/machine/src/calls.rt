@@ -4,20 +4,20 @@ ghost use Rattle.machine.specs.Runs.{fresh, call, says, turn};
 ghost use Rattle.machine.specs.Laws.{Ends, Waits, Resumes, Bounded, Stays};
 ghost use Rattle.machine.specs.Views.{keeps, said_of, turn_of};
 
-use crate::answer::{Answer, Step};
+use crate::answer::Answer;
 use crate::cursor::Cursor;
-use crate::flow::Flow;
 use crate::instruction::Instruction;
 use crate::machine::Machine;
 use crate::memory::Memory;
 use crate::running::Halted;
 use boards::Board;
+use std::ops::ControlFlow;
 
 // The first `n` records, or all of them.
 fn first(code: &[Instruction], n: usize) -> &[Instruction]
     ensures { result.now ≡ take n code.now }
 {
-    if n < code.len() { &code[0..n] } else { code }
+    &code[..n.min(code.len())]
 }
 
 impl Machine {
@@ -63,57 +63,38 @@ impl Machine {
         ensures stays { Stays }
         ensures bounded { Bounded }
     {
-        if let Some(ended) = self.over {
-            return self.answer(ended.ending, ended.place);
+        match self.begin(ticks) {
+            ControlFlow::Break(answer) => answer,
+            ControlFlow::Continue(from) => {
+                let records = first(code, n);
+                let halted = self.memory.run(records, from, self.counted, board);
+                self.settle(records, halted, ticks)
+            }
         }
-        let records = first(code, n);
-        let from = Cursor {
-            position: self.position,
-            height: self.height,
-            left: ticks as u64,
-        };
-        let halted = self.memory.run(records, from, self.counted, board);
-        self.settle(records, halted, ticks)
     }
 
-    // One step over the first `n` records, with `ticks` at hand.
+    // One step over the first `n` records, with `ticks` at hand: it goes on with the ticks that are left, or stops.
     pub fn step<B: Board>(
         &mut self,
         code: &[Instruction],
         n: usize,
         board: &mut B,
         ticks: u32,
-    ) -> Step
+    ) -> ControlFlow<Answer, u32>
         ensures { turn_of result (keeps self.new) (B.meaning board.new) ≡ turn (take n code.now) (keeps self.old) (B.meaning board.old) ticks }
     {
-        if let Some(ended) = self.over {
-            return Step::Stops(self.answer(ended.ending, ended.place));
-        }
+        let from = self.begin(ticks)?;
         let records = first(code, n);
-        let from = Cursor {
-            position: self.position,
-            height: self.height,
-            left: ticks as u64,
-        };
-        let moved = self.memory.step(records, from, board);
-        match moved.flow {
-            Flow::Goes => self.move_on(moved.at, ticks),
-            Flow::Ends(_) => {
-                let counted = self.counted.saturating_add(1);
+        let mut next = from;
+        match self.memory.step(records, &mut next, board) {
+            Ok(()) => ControlFlow::Continue(self.move_on(next, ticks)),
+            Err(stop) => {
                 let halted = Halted {
-                    flow: moved.flow,
-                    at: moved.at,
-                    counted,
+                    stop,
+                    at: from,
+                    counted: self.counted.saturating_add(stop.counts()),
                 };
-                Step::Stops(self.settle(records, halted, ticks))
-            }
-            Flow::Waits | Flow::Breaks => {
-                let halted = Halted {
-                    flow: moved.flow,
-                    at: moved.at,
-                    counted: self.counted,
-                };
-                Step::Stops(self.settle(records, halted, ticks))
+                ControlFlow::Break(self.settle(records, halted, ticks))
             }
         }
     }

@@ -1,7 +1,7 @@
 // How a run ends.
 use refusal::Reason;
 
-#[derive(Clone, Copy)]
+#[derive(Clone, Copy, PartialEq, Eq, Debug)]
 pub enum Ending {
     // The code returned this value.
     Returned(i32),

@@ -3,6 +3,7 @@ ghost use Rattle.std.specs.Prelude.{◌≡◌};
 ghost use Rattle.machine.specs.Endings.{end_of};
 
 use crate::ending::Ending;
+use std::fmt;
 
 impl Ending {
     // The number that stands for the ending.
@@ -27,5 +28,23 @@ impl Ending {
             Ending::Board(reason) => reason.number() as i32,
             Ending::Waiting | Ending::Divided | Ending::Broken => 0,
         }
+    }
+}
+
+// The ending's name.
+impl fmt::Display for Ending {
+    ghost use Rattle.std.specs.Prelude.{Some};
+    ghost use Rattle.machine.specs.Endings.{name_of};
+
+    ghost output = { λ ending. Some (name_of ending) };
+
+    fn fmt<W: fmt::Write>(&self, f: &mut fmt::Formatter<W>) -> fmt::Result {
+        f.write_str(match *self {
+            Ending::Returned(_) => "returned",
+            Ending::Waiting => "waiting",
+            Ending::Divided => "divided",
+            Ending::Board(_) => "board",
+            Ending::Broken => "broken",
+        })
     }
 }

@@ -1,17 +1,16 @@
-// The instructions that see the position and the ticks.
-ghost use Rattle.std.specs.Prelude.{◌≡◌, ◌+◌, ◌^◌, ◌<◌, ◌≤◌};
+// The instructions that see the position and the ticks. The cursor is already on the instruction that follows.
+ghost use Rattle.std.specs.Prelude.{◌≡◌, ◌+◌, ℕ};
 ghost use Rattle.boards.specs.Meaning.{Meaning};
 ghost use Rattle.machine.specs.Codes.{may_land};
-ghost use Rattle.machine.specs.Steps.{jumped, branched, ticked};
-ghost use Rattle.machine.specs.Views.{tops, state_of, next_of};
+ghost use Rattle.machine.specs.Steps.{at, jumped, branched, ticked};
+ghost use Rattle.machine.specs.Views.{tops, store_of, state_of, fetched_at, next_of};
+ghost use Rattle.machine.specs.declared.memory.Memory.{Memory as MemoryType};
 
 use crate::cursor::Cursor;
-use crate::flow::Flow;
 use crate::instruction::Instruction;
 use crate::memory::Memory;
-use crate::moves::Moved;
-
-const TICK: i32 = 16;
+use crate::op::Op;
+use crate::stop::Stop;
 
 // Whether a taken jump may go there: forward, or onto a tick.
 pub(crate) fn may_land(code: &[Instruction], from: usize, to: usize) -> bool
@@ -20,59 +19,47 @@ pub(crate) fn may_land(code: &[Instruction], from: usize, to: usize) -> bool
     if from < to {
         return true;
     }
-    to < code.len() && code[to].code == TICK
+    to < code.len() && code[to].code == Op::Tick.code()
 }
 
-impl Memory {
-    // A jump is taken, with `height` values left on the stack.
-    pub(crate) fn jump(&self, code: &[Instruction], at: Cursor, height: usize, to: i32) -> Moved
-        requires { height ≤ 256 }
-        ensures { (b : Meaning) → next_of result.flow (state_of self.now result.at b) ≡ jumped code.now to (tops self.now.values height) (state_of self.now at b) }
+impl Cursor {
+    // A jump is taken.
+    pub(crate) fn jump(&mut self, code: &[Instruction], from: usize, to: i32) -> Result<(), Stop>
+        ensures { (m : MemoryType) (height : ℕ) (b : Meaning) → let u = at (store_of m height) from self.old.left b in next_of result u (state_of m self.new b) ≡ jumped code.now to (tops m.values self.old.height) u }
     {
-        if to < 0 || !may_land(code, at.position, to as usize) {
-            return at.breaks();
+        if to < 0 || !may_land(code, from, to as usize) {
+            return Err(Stop::Breaks);
         }
-        Moved {
-            flow: Flow::Goes,
-            at: Cursor {
-                position: to as usize,
-                height,
-                left: at.left,
-            },
-        }
-    }
-
-    pub(crate) fn jump_if_zero(&self, code: &[Instruction], at: Cursor, to: i32) -> Moved
-        requires { at.position + 1 < 2 ^ 64 }
-        ensures { (b : Meaning) → next_of result.flow (state_of self.now result.at b) ≡ branched code.now to (tops self.now.values at.height) (state_of self.now at b) }
-    {
-        if at.height == 0 {
-            return at.breaks();
-        }
-        if self.values[at.height - 1] != 0 {
-            return at.next(at.height - 1);
-        }
-        self.jump(code, at, at.height - 1, to)
+        self.position = to as usize;
+        Ok(())
     }
 
     // A tick is spent, or waited for.
-    pub(crate) fn tick(&self, at: Cursor) -> Moved
-        requires { at.position + 1 < 2 ^ 64 }
-        ensures { (b : Meaning) → next_of result.flow (state_of self.now result.at b) ≡ ticked at.left (state_of self.now at b) }
+    pub(crate) fn tick(&mut self) -> Result<(), Stop>
+        ensures { (m : MemoryType) (b : Meaning) (from : ℕ) → self.old.position ≡ from + 1 → let u = fetched_at m self.old from b in next_of result u (state_of m self.new b) ≡ ticked u.left u }
     {
-        if at.left == 0 {
-            return Moved {
-                flow: Flow::Waits,
-                at,
-            };
+        if self.left == 0 {
+            return Err(Stop::Waits);
         }
-        Moved {
-            flow: Flow::Goes,
-            at: Cursor {
-                position: at.position + 1,
-                height: at.height,
-                left: at.left - 1,
-            },
+        self.left -= 1;
+        Ok(())
+    }
+}
+
+impl Memory {
+    pub(crate) fn jump_if_zero(
+        &self,
+        code: &[Instruction],
+        from: usize,
+        at: &mut Cursor,
+        to: i32,
+    ) -> Result<(), Stop>
+        ensures { (b : Meaning) → at.old.position ≡ from + 1 → let u = fetched_at self.now at.old from b in next_of result u (state_of self.now at.new b) ≡ branched code.now to u.store.stack u }
+    {
+        let v = self.pop(at)?;
+        if v != 0 {
+            return Ok(());
         }
+        at.jump(code, from, to)
     }
 }

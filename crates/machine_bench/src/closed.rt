@@ -20,17 +20,11 @@ impl Board for Closed {
     }
 
     fn zone(&mut self, i: i32) -> Result<i32, Refusal> {
-        Err(Refusal {
-            reason: Reason::NoSuchZone,
-            place: 0,
-        })
+        Err(Reason::NoSuchZone.into())
     }
 
     fn report(&mut self, v: i32) -> Result<(), Refusal> {
-        Err(Refusal {
-            reason: Reason::ReportsFull,
-            place: 0,
-        })
+        Err(Reason::ReportsFull.into())
     }
 
     fn kept(&mut self, k: usize) -> Option<i32> {

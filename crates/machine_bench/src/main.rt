@@ -5,12 +5,12 @@ mod closed;
 
 use boards::Board;
 use closed::Closed;
-use machine::{Instruction, Machine};
+use machine::{Instruction, Machine, Op};
 use std::env;
 
-fn at(code: i32, operand: i32) -> Instruction {
+fn at(op: Op, operand: i32) -> Instruction {
     Instruction {
-        code,
+        code: op.code(),
         operand,
         place: 0,
     }
@@ -19,28 +19,28 @@ fn at(code: i32, operand: i32) -> Instruction {
 // s = 0; i = 0; while (i < rounds) { s = s + i * 3; i = i + 1; } return s;
 fn summing(rounds: i32) -> [Instruction; 22] {
     [
-        at(0, 0),
-        at(2, 0),
-        at(0, 0),
-        at(2, 1),
-        at(16, 0),
-        at(1, 1),
-        at(0, rounds),
-        at(10, 0),
-        at(15, 20),
-        at(1, 0),
-        at(1, 1),
-        at(0, 3),
-        at(6, 0),
-        at(4, 0),
-        at(2, 0),
-        at(1, 1),
-        at(0, 1),
-        at(4, 0),
-        at(2, 1),
-        at(14, 4),
-        at(1, 0),
-        at(21, 0),
+        at(Op::Push, 0),
+        at(Op::Store, 0),
+        at(Op::Push, 0),
+        at(Op::Store, 1),
+        at(Op::Tick, 0),
+        at(Op::Load, 1),
+        at(Op::Push, rounds),
+        at(Op::Less, 0),
+        at(Op::JumpIfZero, 20),
+        at(Op::Load, 0),
+        at(Op::Load, 1),
+        at(Op::Push, 3),
+        at(Op::Multiply, 0),
+        at(Op::Add, 0),
+        at(Op::Store, 0),
+        at(Op::Load, 1),
+        at(Op::Push, 1),
+        at(Op::Add, 0),
+        at(Op::Store, 1),
+        at(Op::Jump, 4),
+        at(Op::Load, 0),
+        at(Op::Return, 0),
     ]
 }
 

@@ -4,9 +4,10 @@
 
 mod small;
 
-use machine::{Answer, Instruction, Machine, Step};
+use machine::{Answer, Instruction, Machine};
 use small::Small;
 use std::io;
+use std::ops::ControlFlow;
 
 fn at(code: i32, operand: i32, place: i32) -> Instruction {
     Instruction {
@@ -363,10 +364,10 @@ fn stepped(rt: &impl Print) -> io::Result<()> {
     step(rt, "step when over", machine.step(&code, 3, &mut board, 1))
 }
 
-fn step(rt: &impl Print, name: &str, step: Step) -> io::Result<()> {
+fn step(rt: &impl Print, name: &str, step: ControlFlow<Answer, u32>) -> io::Result<()> {
     match step {
-        Step::Goes(left) => println!(rt; "{name}: goes, {left} left"),
-        Step::Stops(answer) => show(rt, name, answer),
+        ControlFlow::Continue(left) => println!(rt; "{name}: goes, {left} left"),
+        ControlFlow::Break(answer) => show(rt, name, answer),
     }
 }
 

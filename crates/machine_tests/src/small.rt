@@ -26,19 +26,13 @@ impl Board for Small {
         match i {
             0 => Ok(10),
             1 => Ok(20),
-            _ => Err(Refusal {
-                reason: Reason::NoSuchZone,
-                place: 0,
-            }),
+            _ => Err(Reason::NoSuchZone.into()),
         }
     }
 
     fn report(&mut self, v: i32) -> Result<(), Refusal> {
         match self.report {
-            Some(_) => Err(Refusal {
-                reason: Reason::ReportsFull,
-                place: 0,
-            }),
+            Some(_) => Err(Reason::ReportsFull.into()),
             None => {
                 self.report = Some(v);
                 Ok(())

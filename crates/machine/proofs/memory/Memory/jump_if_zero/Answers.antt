@@ -1,23 +1,15 @@
-use Rattle.std.proofs.Common.{◌-◌, get_or, pos, ◌∙◌, arith, w32, SFits, rules}
+use Rattle.std.proofs.Common.{◌≡◌, true, ◌∙◌, w32, SFits, rules}
 use Rattle.std.proofs.lemmas.Int.{to_z-of_z}
-use Rattle.machine.proofs.Landing.{taken, untaken, zero_bits, is_zero_lem}
+use Rattle.ints.specs.Arith.{is_zero}
+use Rattle.machine.proofs.Landing.{no_bits, taken}
 use Rattle.machine.proofs.memory.Memory.jump_if_zero.Goals as goal
 
-pub returns-then-self-at-ne0 : goal.returns-then-self-at-ne0
-returns-then-self-at-ne0 c = λ b.
-    let m = c.args.self.now in
-    let at = c.args.at in
-    let v = get_or m.values (at.height - 1) (pos 0) in
-    let f : SFits w32 v = search rules in
-    let n = c.next.ensures in
-    untaken c.args.code.now c.args.to m at b (omega arith) (zero_bits v f c.if-self-at-ne0.true) c.next.result n.flow n.position n.height n.left
-
 pub returns : goal.returns
-returns c = λ b.
-    let m = c.args.self.now in
-    let at = c.args.at in
-    let v = get_or m.values (at.height - 1) (pos 0) in
-    let f : SFits w32 v = search rules in
+returns c = λ b p.
+    let e = c.in_ok-v.ensures in
+    let f : SFits w32 c.in_ok-v.v = search rules in
     let g : SFits w32 c.args.to = c.ranges.to in
-    let j = simp to_z-of_z at (c.jump.ensures b) in
-    j ∙ taken c.args.code.now c.args.to m at b (omega arith) (is_zero_lem v f c.if-self-at-ne0.false)
+    let z : is_zero c.in_ok-v.v ≡ true = no_bits c.in_ok-v.v f c.if-v-ne0.false in
+    let m = c.args.self.now in
+    let j = simp to_z-of_z at (c.jump.ensures m c.args.at.now.height b) in
+    rw (← e.1.left) (j ∙ taken c.args.code.now c.args.to c.in_ok-v.v m c.args.at.now.height c.pop.new.at.height c.args.from c.pop.new.at.left b e.0 z)

@@ -1,76 +1,41 @@
-use Rattle.std.proofs.Common.{sym, refl, ◌∙◌, subst, arith}
+use Rattle.std.proofs.Common.{sym, refl, ap, ◌∙◌, subst, arith}
+use Rattle.machine.specs.declared.stop.Stop.TheVariants.{Waits, Ends, Breaks}
 use Rattle.machine.specs.Endings.{end_of}
-use Rattle.machine.specs.Views.{state_of}
+use Rattle.machine.specs.Operations.{ends}
+use Rattle.machine.specs.Views.{state_of, stop_of, stopped}
 use Rattle.machine.proofs.Falls.{Falls, step_falls}
-use Rattle.machine.proofs.Looping.{begins, straight, leapt, ended_same, waited_same, broke_same, inside_go, inside_stop, turned_to, Stopped, same_cursor}
+use Rattle.machine.proofs.Looping.{begins, straight, leapt, stopped_same}
 use Rattle.machine.proofs.memory.Memory.run.Goals as goal
-use Rattle.machine.proofs.memory.Memory.run.Goals.{then-moved-position, else-moved-position}
 
 pub run-init : goal.run-init
 run-init g c = begins _ _ _ _ refl _ _ refl refl (omega arith)
 
-pub overflow_add-position : goal.overflow_add-position
-overflow_add-position g c =
-    let i = inside_go c.args.code.now (state_of c.run.self c.run.at (g.B.Board.meaning c.run.board)) _ (turned_to _ _ _ c.step-moved.ensures c.in-Goes.is) in
-    omega (arith, i)
+pub run-smaller-then-next-at : goal.run-smaller-then-next-at
+run-smaller-then-next-at g c = (subst (Falls c.args.code.now _) (sym c.in-Ok.ensures) (step_falls c.args.code.now _)).0
 
-pub overflow_sub-position : goal.overflow_sub-position
-overflow_sub-position g c = c.run.invariant.since
-
-pub overflow_add-position-then-moved-position : goal.overflow_add-position-then-moved-position
-overflow_add-position-then-moved-position g c =
-    let i = inside_go c.args.code.now (state_of c.run.self c.run.at (g.B.Board.meaning c.run.board)) _ (turned_to _ _ _ c.step-moved.ensures c.in-Goes.is) in
-    omega (arith, i)
+pub run-preserved-then-next-at : goal.run-preserved-then-next-at
+run-preserved-then-next-at g c = leapt _ _ _ _ _ _ _ c.run.invariant (sym c.in-Ok.ensures) _ c.saturating_add-counted.ensures
 
 pub run-smaller : goal.run-smaller
-run-smaller g c = (subst (Falls c.args.code.now _) (turned_to _ _ _ c.step-moved.ensures c.in-Goes.is) (step_falls c.args.code.now _)).0
+run-smaller g c = (subst (Falls c.args.code.now _) (sym c.in-Ok.ensures) (step_falls c.args.code.now _)).0
 
 pub run-preserved : goal.run-preserved
-run-preserved g c =
-    let l = c.run.invariant in
-    let e = turned_to _ _ _ c.step-moved.ensures c.in-Goes.is in
-    elim c.if-moved-position.branch [
-      | then-moved-position w ↦ rw w.start-is (leapt _ _ _ _ _ _ _ l e _ (w.counted-is ∙ w.saturating_add-counted.ensures))
-      | else-moved-position w ↦ rw (w.start-is, w.counted-is) (straight _ _ _ _ _ _ _ l e w.if-moved-position.false)
-    ]
+run-preserved g c = straight _ _ _ _ _ _ _ c.run.invariant (sym c.in-Ok.ensures) c.if-next-at.false
 
-pub overflow_sub-position-in-Ends : goal.overflow_sub-position-in-Ends
-overflow_sub-position-in-Ends g c = c.run.invariant.since
+pub returns-in-Err-Ends : goal.returns-in-Err-Ends
+returns-in-Err-Ends g c =
+    let n = c.new.ensures in
+    let s = stopped_same _ _ _ _ _ _ _ c.run.invariant (Ends c.in-Err-Ends.ending) _ (sym c.in-Err-Ends.ensures ∙ ap (λ s. stopped s (state_of c.step.new.self c.run.at (g.B.Board.meaning c.step.new.board))) c.in-Err-Ends.field-0-is) n.counted in
+    record { how = ap stop_of n.stop ∙ ap (λ e. ends (end_of e)) c.in-Err-Ends.ending-is ∙ s.0; state = ap (λ a. state_of c.step.new.self a (g.B.Board.meaning c.step.new.board)) n.at ∙ s.1; counted = s.2 }
 
-pub overflow_add-position-in-Ends : goal.overflow_add-position-in-Ends
-overflow_add-position-in-Ends g c =
-    let i = inside_stop c.args.code.now (state_of c.run.self c.run.at (g.B.Board.meaning c.run.board)) _ _ (turned_to _ _ _ c.step-moved.ensures c.in-Ends.is) in
-    omega (arith, i)
+pub returns-in-Err-Waits : goal.returns-in-Err-Waits
+returns-in-Err-Waits g c =
+    let n = c.new-in-Err-Waits.ensures in
+    let s = stopped_same _ _ _ _ _ _ _ c.run.invariant Waits _ (sym c.in-Err-Waits.ensures ∙ ap (λ s. stopped s (state_of c.step.new.self c.run.at (g.B.Board.meaning c.step.new.board))) c.in-Err-Waits.field-0-is) n.counted in
+    record { how = ap stop_of n.stop ∙ s.0; state = ap (λ a. state_of c.step.new.self a (g.B.Board.meaning c.step.new.board)) n.at ∙ s.1; counted = s.2 }
 
-pub returns-in-Ends : goal.returns-in-Ends
-returns-in-Ends g c =
-    let e = turned_to _ _ _ c.step-moved.ensures c.in-Ends.is in
-    let k = c.saturating_add-counted-in-Ends in
-    let s = ended_same _ _ _ _ _ _ _ c.run.invariant (end_of c.in-Ends.ending) k.result e k.ensures in
-    let same = same_cursor c.args.code.now c.run.self c.step-moved.new.self c.run.at c.step-moved.result.at (g.B.Board.meaning c.run.board)
-    (g.B.Board.meaning c.step-moved.new.board) c.step-moved.result.flow c.step-moved.ensures (subst Stopped (sym c.in-Ends.is) tt) in
-    record { how = s.0; state = same ∙ s.1; counted = s.2 }
-
-pub overflow_sub-position-in-Waits : goal.overflow_sub-position-in-Waits
-overflow_sub-position-in-Waits g c = c.run.invariant.since
-
-pub returns-in-Waits : goal.returns-in-Waits
-returns-in-Waits g c =
-    let e = turned_to _ _ _ c.step-moved.ensures c.in-Waits.is in
-    let k = c.saturating_add-counted-in-Waits in
-    let s = waited_same _ _ _ _ _ _ _ c.run.invariant k.result e k.ensures in
-    let same = same_cursor c.args.code.now c.run.self c.step-moved.new.self c.run.at c.step-moved.result.at (g.B.Board.meaning c.run.board)
-    (g.B.Board.meaning c.step-moved.new.board) c.step-moved.result.flow c.step-moved.ensures (subst Stopped (sym c.in-Waits.is) tt) in
-    record { how = s.0; state = same ∙ s.1; counted = s.2 }
-
-pub overflow_sub-position-in-Breaks : goal.overflow_sub-position-in-Breaks
-overflow_sub-position-in-Breaks g c = c.run.invariant.since
-
-pub returns-in-Breaks : goal.returns-in-Breaks
-returns-in-Breaks g c =
-    let e = turned_to _ _ _ c.step-moved.ensures c.in-Breaks.is in
-    let k = c.saturating_add-counted-in-Breaks in
-    let s = broke_same _ _ _ _ _ _ _ c.run.invariant k.result e k.ensures in
-    let same = same_cursor c.args.code.now c.run.self c.step-moved.new.self c.run.at c.step-moved.result.at (g.B.Board.meaning c.run.board)
-    (g.B.Board.meaning c.step-moved.new.board) c.step-moved.result.flow c.step-moved.ensures (subst Stopped (sym c.in-Breaks.is) tt) in
-    record { how = s.0; state = same ∙ s.1; counted = s.2 }
+pub returns-in-Err-Breaks : goal.returns-in-Err-Breaks
+returns-in-Err-Breaks g c =
+    let n = c.new-in-Err-Breaks.ensures in
+    let s = stopped_same _ _ _ _ _ _ _ c.run.invariant Breaks _ (sym c.in-Err-Breaks.ensures ∙ ap (λ s. stopped s (state_of c.step.new.self c.run.at (g.B.Board.meaning c.step.new.board))) c.in-Err-Breaks.field-0-is) n.counted in
+    record { how = ap stop_of n.stop ∙ s.0; state = ap (λ a. state_of c.step.new.self a (g.B.Board.meaning c.step.new.board)) n.at ∙ s.1; counted = s.2 }
