@@ -8,7 +8,6 @@ use Rattle.lexer.specs.declared.kind.Kind.{Kind}
 use Rattle.lexer.specs.declared.kind.Kind.TheVariants as K
 use Rattle.lexer.specs.declared.kind.Token.{Token}
 use Rattle.lookahead.specs.Seen.{seen, is_kind, start_of}
-use Rattle.lookahead.specs.declared.class.Start.TheVariants as S
 use Rattle.meaning.specs.declared.operator.Scalar.{Scalar}
 use Rattle.meaning.specs.Trees.{Expr, Args, no_args, args, Exprs, last, more}
 use Rattle.meaning.specs.Written.{sign, expr_lexemes, args_lexemes, exprs_lexemes}
@@ -38,7 +37,7 @@ kind_found None k h = let w : ◌≡◌ {A = ℕ} 0 1 = cc in absurd (omega arit
 kind_found (Some j) k h = ap Some (same_code j k h)
 
 -- an expression does not begin with what begins no operand
-pub expr_begins : (s : List ℕ) (ts : List Token) (at n : ℕ) (e : Expr) (r : List Lexeme) → Grouped e n → drop at (lexemes s ts) ≡ expr_lexemes e r → start_of (seen ts at) ≡ S.Nothing → ⊥
+pub expr_begins : (s : List ℕ) (ts : List Token) (at n : ℕ) (e : Expr) (r : List Lexeme) → Grouped e n → drop at (lexemes s ts) ≡ expr_lexemes e r → start_of (seen ts at) ≡ None → ⊥
 expr_begins s ts at n e r g h z =
     never_starts (first_of e) (first_grouped e n g) (sym z ∙ start_is s ts at (first_of e) (after_first e r) (first_grouped e n g) (h ∙ first_lexemes e r))
 

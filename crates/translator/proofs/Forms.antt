@@ -1,5 +1,5 @@
 -- The first lexeme of a tree tells its form.
-use Rattle.std.proofs.Common.{◌≡◌, ℕ, zero, suc, ◌+◌, ◌<◌, Bool, true, false, cond, ◌||◌, ◌⊎◌, List, [], ◌∷◌, length, drop, Some, None, Result, sym, refl, ap, ◌∙◌, subst, inl, inr, ⊎_elim, arith}
+use Rattle.std.proofs.Common.{◌≡◌, ℕ, zero, suc, ◌+◌, ◌<◌, Bool, true, false, cond, ◌||◌, ◌⊎◌, List, [], ◌∷◌, length, drop, Option, Some, None, Result, sym, refl, ap, ◌∙◌, subst, inl, inr, ⊎_elim, arith}
 use Rattle.stacks.specs.Held.{Held}
 use Rattle.std.specs.List.{slice_get}
 use Rattle.machine.specs.declared.instruction.Instruction.{Instruction}
@@ -50,9 +50,9 @@ first_kind_lem P a b c d f g h i (unary negate p e) = h
 first_kind_lem P a b c d f g h i (unary invert p e) = i
 first_kind_lem P a b c d f g h i (binary o p x y) = first_kind_lem P a b c d f g h i x
 
-first_lead : (e : Expr) → (lead_of (Some (first_of e).kind) ≡ L.Name) ⊎ (lead_of (Some (first_of e).kind) ≡ L.Expression)
+first_lead : (e : Expr) → (lead_of (Some (first_of e).kind) ≡ Some L.Name) ⊎ (lead_of (Some (first_of e).kind) ≡ Some L.Expression)
 first_lead e =
-    first_kind_lem (λ k. (lead_of (Some k) ≡ L.Name) ⊎ (lead_of (Some k) ≡ L.Expression))
+    first_kind_lem (λ k. (lead_of (Some k) ≡ Some L.Name) ⊎ (lead_of (Some k) ≡ Some L.Expression))
     (inl refl) (inr refl) (inr refl) (inr refl) (inr refl) (inr refl) (inr refl) (inr refl) e
 
 pub seen_expr : (s : List ℕ) (ts : List Token) (at : ℕ) (e : Expr) (r : List Lexeme) → drop at (lexemes s ts) ≡ expr_lexemes e r → seen ts at ≡ Some (first_of e).kind
@@ -90,7 +90,7 @@ operator_unassigned NotEqual = refl
 operator_unassigned And = refl
 operator_unassigned Or = refl
 
-after-name : (e : Expr) (r : List Lexeme) → lead_of (Some (first_of e).kind) ≡ L.Name → Unassigned r → (ls : List Lexeme) × (expr_lexemes e r ≡ first_of e ∷ ls) × Unassigned ls
+after-name : (e : Expr) (r : List Lexeme) → lead_of (Some (first_of e).kind) ≡ Some L.Name → Unassigned r → (ls : List Lexeme) × (expr_lexemes e r ≡ first_of e ∷ ls) × Unassigned ls
 unfolding expr_lexemes
 after-name (constant (number v p)) r h u = let z : ◌≡◌ {A = ℕ} 0 1 = cc in absurd (omega arith)
 after-name (constant (character v p)) r h u = let z : ◌≡◌ {A = ℕ} 0 1 = cc in absurd (omega arith)
@@ -114,7 +114,7 @@ seen_unassigned s (t ∷ ts) (suc at) ls h u = seen_unassigned s ts at ls h u
 
 -- the second place of an expression statement that begins with a name
 pub named_unassigned : (s : List ℕ) (ts : List Token) (at : ℕ) (e : Expr) (q : ℕ) (r : List Lexeme) → drop at (lexemes s ts) ≡ expr_lexemes e (sign K.Semicolon q ∷ r) →
-    lead_of (Some (first_of e).kind) ≡ L.Name → assigns_of (seen ts (at + 1)) ≡ false
+    lead_of (Some (first_of e).kind) ≡ Some L.Name → assigns_of (seen ts (at + 1)) ≡ false
 named_unassigned s ts at e q r h l =
     let a = after-name e (sign K.Semicolon q ∷ r) l refl in
     seen_unassigned s ts (at + 1) a.0 (next_is (lexemes s ts) at (first_of e) a.0 (h ∙ a.1)) a.2
@@ -122,23 +122,23 @@ named_unassigned s ts at e q r h l =
 -- Statements.
 
 -- how a statement begins
-abbrev pub lead_by : Stmt → Lead
-lead_by (block q ss) = L.Block
-lead_by (define t q x e) = L.Definition
-lead_by (assign x p e q) = L.Name
-lead_by (modify m x p e q) = L.Name
+abbrev pub lead_by : Stmt → Option Lead
+lead_by (block q ss) = Some L.Block
+lead_by (define t q x e) = Some L.Definition
+lead_by (assign x p e q) = Some L.Name
+lead_by (modify m x p e q) = Some L.Name
 lead_by (evaluate e q) = lead_of (Some (first_of e).kind)
-lead_by (if_then p q e s) = L.If
-lead_by (if_else p q e s o t) = L.If
-lead_by (while p q e s) = L.While
-lead_by (do_while p s q e) = L.Do
-lead_by (for_to p q x a b s) = L.For
-lead_by (break p q) = L.Jump
-lead_by (continue p q) = L.Jump
-lead_by (return p e q) = L.Return
-lead_by (return_bare p q) = L.Return
+lead_by (if_then p q e s) = Some L.If
+lead_by (if_else p q e s o t) = Some L.If
+lead_by (while p q e s) = Some L.While
+lead_by (do_while p s q e) = Some L.Do
+lead_by (for_to p q x a b s) = Some L.For
+lead_by (break p q) = Some L.Jump
+lead_by (continue p q) = Some L.Jump
+lead_by (return p e q) = Some L.Return
+lead_by (return_bare p q) = Some L.Return
 
-type_lead : (t : Scalar) → lead_of (Some (type_kind t)) ≡ L.Definition
+type_lead : (t : Scalar) → lead_of (Some (type_kind t)) ≡ Some L.Definition
 type_lead bool = refl
 type_lead char = refl
 type_lead int = refl
@@ -161,22 +161,22 @@ seen_lead s ts at (return p e q) r h = ap lead_of (seen-sign s ts at K.Return _ 
 seen_lead s ts at (return_bare p q) r h = ap lead_of (seen-sign s ts at K.Return _ _ h)
 
 -- what is to show of the statements that begin in a way
-abbrev pub ByLead : (Stmt → Type 0) → Lead → Type 0
-ByLead P L.Block = (q : ℕ × ℕ) (ss : Stmts) → P (block q ss)
-ByLead P L.Definition = (t : Scalar) (q : ℕ × ℕ × ℕ) (x : Ident) (e : Expr) → P (define t q x e)
-ByLead P L.Name =
+abbrev pub ByLead : (Stmt → Type 0) → Option Lead → Type 0
+ByLead P (Some L.Block) = (q : ℕ × ℕ) (ss : Stmts) → P (block q ss)
+ByLead P (Some L.Definition) = (t : Scalar) (q : ℕ × ℕ × ℕ) (x : Ident) (e : Expr) → P (define t q x e)
+ByLead P (Some L.Name) =
     ((x : Ident) (p : ℕ) (e : Expr) (q : ℕ) → P (assign x p e q)) × ((m : Modifier) (x : Ident) (p : ℕ) (e : Expr) (q : ℕ) → P (modify m x p e q))
-    × ((e : Expr) (q : ℕ) → lead_of (Some (first_of e).kind) ≡ L.Name → P (evaluate e q))
-ByLead P L.If =
+    × ((e : Expr) (q : ℕ) → lead_of (Some (first_of e).kind) ≡ Some L.Name → P (evaluate e q))
+ByLead P (Some L.If) =
     ((p : ℕ) (q : ℕ × ℕ) (e : Expr) (t : Stmt) → P (if_then p q e t))
     × ((p : ℕ) (q : ℕ × ℕ) (e : Expr) (t : Stmt) (o : ℕ) (u : Stmt) → P (if_else p q e t o u))
-ByLead P L.While = (p : ℕ) (q : ℕ × ℕ) (e : Expr) (t : Stmt) → P (while p q e t)
-ByLead P L.Do = (p : ℕ) (t : Stmt) (q : ℕ × ℕ × ℕ × ℕ) (e : Expr) → P (do_while p t q e)
-ByLead P L.For = (p : ℕ) (q : ℕ × ℕ × ℕ × ℕ × ℕ) (x : Ident) (a b : Expr) (t : Stmt) → P (for_to p q x a b t)
-ByLead P L.Jump = (p q : ℕ) → P (break p q) × P (continue p q)
-ByLead P L.Return = ((p : ℕ) (e : Expr) (q : ℕ) → P (return p e q)) × ((p q : ℕ) → P (return_bare p q))
-ByLead P L.Expression = (e : Expr) (q : ℕ) → P (evaluate e q)
-ByLead P L.Nothing = Unit {0}
+ByLead P (Some L.While) = (p : ℕ) (q : ℕ × ℕ) (e : Expr) (t : Stmt) → P (while p q e t)
+ByLead P (Some L.Do) = (p : ℕ) (t : Stmt) (q : ℕ × ℕ × ℕ × ℕ) (e : Expr) → P (do_while p t q e)
+ByLead P (Some L.For) = (p : ℕ) (q : ℕ × ℕ × ℕ × ℕ × ℕ) (x : Ident) (a b : Expr) (t : Stmt) → P (for_to p q x a b t)
+ByLead P (Some L.Jump) = (p q : ℕ) → P (break p q) × P (continue p q)
+ByLead P (Some L.Return) = ((p : ℕ) (e : Expr) (q : ℕ) → P (return p e q)) × ((p q : ℕ) → P (return_bare p q))
+ByLead P (Some L.Expression) = (e : Expr) (q : ℕ) → P (evaluate e q)
+ByLead P None = Unit {0}
 
 by_lead : (P : Stmt → Type 0) (t : Stmt) → ByLead P (lead_by t) → P t
 by_lead P (block q ss) b = b q ss
@@ -184,7 +184,7 @@ by_lead P (define t q x e) b = b t q x e
 by_lead P (assign x p e q) b = b.0 x p e q
 by_lead P (modify m x p e q) b = b.1 m x p e q
 by_lead P (evaluate e q) b =
-    ⊎_elim (λ l. let c : ByLead P L.Name = rw l at b in c.2 e q l) (λ l. let c : ByLead P L.Expression = rw l at b in c e q) (first_lead e)
+    ⊎_elim (λ l. let c : ByLead P (Some L.Name) = rw l at b in c.2 e q l) (λ l. let c : ByLead P (Some L.Expression) = rw l at b in c e q) (first_lead e)
 by_lead P (if_then p q e t) b = b.0 p q e t
 by_lead P (if_else p q e t o u) b = b.1 p q e t o u
 by_lead P (while p q e t) b = b p q e t
@@ -196,7 +196,7 @@ by_lead P (return p e q) b = b.0 p e q
 by_lead P (return_bare p q) b = b.1 p q
 
 -- whatever statement stands there begins as the code has seen
-pub dispatch : (s : List ℕ) (ts : List Token) (at : ℕ) (l : Bool) (W V : Work) (r : Result ℕ Refusal) (k : Lead) → k ≡ lead_of (seen ts at) → ByLead (λ t. Makes s ts at l W V t r) k →
+pub dispatch : (s : List ℕ) (ts : List Token) (at : ℕ) (l : Bool) (W V : Work) (r : Result ℕ Refusal) (k : Option Lead) → k ≡ lead_of (seen ts at) → ByLead (λ t. Makes s ts at l W V t r) k →
     TranslatesStmt s ts at l W V r
 dispatch s ts at l W V r k e b t h =
     let P : Stmt → Type 0 = λ u. Makes s ts at l W V u r in
@@ -289,7 +289,7 @@ module _ (s : List ℕ) (ts : List Token) (at : ℕ) (l : Bool) (N : Held Name) 
   modify_mark m x p e q h = (_, next_is (lexemes s ts) at _ _ h.ready.stands)
 
   -- no assignment: an expression
-  pub names_evaluate : false ≡ assigns_of (seen ts (at + 1)) → TranslatesEvaluation s ts at N C D r → ByLead Becomes L.Name
+  pub names_evaluate : false ≡ assigns_of (seen ts (at + 1)) → TranslatesEvaluation s ts at N C D r → ByLead Becomes (Some L.Name)
   names_evaluate b f = (
     (λ x p e q h.
         let k = assign_mark x p e q h in
@@ -303,14 +303,14 @@ module _ (s : List ℕ) (ts : List Token) (at : ℕ) (l : Bool) (N : Held Name) 
   )
 
   -- an assignment: not an expression
-  not_evaluated : true ≡ assigns_of (seen ts (at + 1)) → (e : Expr) (q : ℕ) → lead_of (Some (first_of e).kind) ≡ L.Name → Becomes (evaluate e q)
+  not_evaluated : true ≡ assigns_of (seen ts (at + 1)) → (e : Expr) (q : ℕ) → lead_of (Some (first_of e).kind) ≡ Some L.Name → Becomes (evaluate e q)
   unfolding stmt_lexemes
   not_evaluated b e q n h =
       let y = named_unassigned s ts at e q h.rest h.ready.stands n in
       let z : ◌≡◌ {A = ℕ} 0 1 = cc in absurd (omega arith)
 
   module _ (b : true ≡ assigns_of (seen ts (at + 1))) (k : Token) (m : at + 1 < length ts → slice_get ts (at + 1) ≡ Some k) where
-    pub names_modify : (o : Operator) → ModifierOf k.kind (Some o) → TranslatesModification s ts at o N C D r → ByLead Becomes L.Name
+    pub names_modify : (o : Operator) → ModifierOf k.kind (Some o) → TranslatesModification s ts at o N C D r → ByLead Becomes (Some L.Name)
     names_modify o f g = (
       (λ x p e q h.
           let n = assign_mark x p e q h in
@@ -323,7 +323,7 @@ module _ (s : List ℕ) (ts : List Token) (at : ℕ) (l : Bool) (N : Held Name) 
       not_evaluated b,
     )
 
-    pub names_assign : ModifierOf k.kind None → TranslatesAssignment s ts at N C D r → ByLead Becomes L.Name
+    pub names_assign : ModifierOf k.kind None → TranslatesAssignment s ts at N C D r → ByLead Becomes (Some L.Name)
     names_assign f g = (
       (λ x p e q h. g x p e q J l h),
       (λ w x p e q h.

@@ -1,5 +1,5 @@
 -- Statements without bodies.
-use Rattle.std.proofs.Common.{◌≡◌, ℕ, ◌+◌, ◌<◌, ◌≤◌, Bool, true, false, not, List, [], ◌∷◌, ◌++◌, length, take, drop, pos, Some, Ok, Err, Option, sym, refl, ap, ◌∙◌, append_assoc, append-nil, arith, length-append}
+use Rattle.std.proofs.Common.{◌≡◌, ℕ, ◌+◌, ◌<◌, ◌≤◌, Bool, true, false, not, List, [], ◌∷◌, ◌++◌, length, take, drop, pos, Some, Ok, Err, Option, sym, refl, ap, ◌∙◌, append_assoc, append-nil, arith, length-append, is_some, is_none}
 use lib.Seq.{take-length, take-append_seam}
 use Rattle.refusal.specs.Told.{Told, accepted, refused}
 use Rattle.refusal.specs.declared.reason.Refusal.{Refusal}
@@ -35,7 +35,7 @@ use Rattle.translator.specs.declared.name.Name.{Name}
 use Rattle.translator.specs.declared.name.Variable.{Variable as Used}
 use Rattle.translator.specs.declared.pending.Jump.{Jump}
 use Rattle.translator.specs.declared.typed.Typed.{Typed}
-use Rattle.translator.specs.declared.typed.Whole.{Whole}
+use Rattle.translator.specs.declared.typed.Called.{Called}
 use Rattle.translator.proofs.Along.{place_is, kind_is, on_by, placed_at, ends_close, ends_semicolon, expr_more}
 use Rattle.translator.proofs.Checked.{then_stops, then-goes, need_met, need_unmet, need_fails, cell_low}
 use Rattle.translator.proofs.Emitting.{code-length}
@@ -261,9 +261,9 @@ module _ (s : List ℕ) (ts : List Token) (at : ℕ) (N : Held Name) (C D : Held
   unfolding check_stmt evaluated_at
   evaluated_fails f g e z J l h = then_stops (check_whole e (scope_of s N.held)) _ _ _ (g e z h.rest (evaluated_at e z J h) refl)
 
-  module _ (w : Whole) (q : ℕ) (g : TranslatesWhole s ts at N C D (Ok w)) (n : w.end < length ts → q ≡ w.end + 1) where
+  module _ (w : Called) (q : ℕ) (g : TranslatesWhole s ts at N C D (Ok w)) (n : w.end < length ts → q ≡ w.end + 1) where
     -- whatever becomes of the value
-    evaluated_with : (v : Bool) (E : Held Instruction) → ((e : Expr) (Γ : Scope) → leaves_nothing e Γ ≡ not w.leaves → leaves_nothing e Γ ≡ v) →
+    evaluated_with : (v : Bool) (E : Held Instruction) → ((e : Expr) (Γ : Scope) → leaves_nothing e Γ ≡ is_none w.gives → leaves_nothing e Γ ≡ v) →
         ((e : Expr) (z : ℕ) (c : List Instruction) (r : List Lexeme) → drop w.end (lexemes s ts) ≡ sign K.Semicolon z ∷ r → D ≡ coded (c ++ expr_code e (scope_of s N.held) (length c)) →
         drop_end v (expr_end e (scope_of s N.held) (length c)) ≤ code_limit → Placed z → E ≡ coded (c ++ (expr_code e (scope_of s N.held) (length c) ++ drop_code v z))) → TranslatesEvaluation s ts at N C E (Ok q)
     unfolding stmt_lexemes stmt_end stmt_code check_stmt evaluated_at
@@ -278,12 +278,12 @@ module _ (s : List ℕ) (ts : List Token) (at : ℕ) (N : Held Name) (C D : Held
         let more = expr_more e (sign K.Semicolon z ∷ h.rest) in
         (then-goes (check_whole e Γ) _ tt d.0, worked_same s ts q N J C E _ h.rest c _ (on_by s ts w.end q _ _ n d.1) (omega arith) em)
 
-    pub evaluated_drops : (t : Token) (E : Held Instruction) → (w.end < length ts → slice_get ts w.end ≡ Some t) → w.leaves ≡ true → Emits D 3 0 t.place E → TranslatesEvaluation s ts at N C E (Ok q)
+    pub evaluated_drops : (t : Token) (E : Held Instruction) → (w.end < length ts → slice_get ts w.end ≡ Some t) → is_some w.gives ≡ true → Emits D 3 0 t.place E → TranslatesEvaluation s ts at N C E (Ok q)
     evaluated_drops t E m b f =
         evaluated_with false E (λ e Γ y. y ∙ ap not b)
         (λ e z c r st d k pl. emit_after D E c e (scope_of s N.held) 3 0 z (rw (place_is s ts w.end t _ _ m st) at f) d k (omega arith) pl)
 
-    pub evaluated_leaves : w.leaves ≡ false → TranslatesEvaluation s ts at N C D (Ok q)
+    pub evaluated_leaves : is_some w.gives ≡ false → TranslatesEvaluation s ts at N C D (Ok q)
     evaluated_leaves b =
         evaluated_with true D (λ e Γ y. y ∙ ap not b)
         (λ e z c r st d k pl. d ∙ ap (λ (X : List Instruction). coded (c ++ X)) (sym (append-nil (expr_code e (scope_of s N.held) (length c)))))

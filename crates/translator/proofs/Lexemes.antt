@@ -32,6 +32,11 @@ name_is s ts at t x r y e f h =
     let k : t.kind ≡ K.Name = ap (λ (m : Lexeme). m.kind) l in
     (f ∙ rw k at (ap (λ (m : Lexeme). m.name) l), ap (λ (m : Lexeme). m.place) l)
 
+-- the same of the word that stands at a place
+pub word_is : (s : List ℕ) (ts : List Token) (at : ℕ) (t : Token) (x : Ident) (r : List Lexeme) (y : List ℕ) → (at < length ts → slice_get ts at ≡ Some t)
+    → ((u : Token) → slice_get ts at ≡ Some u → y ≡ take u.length (drop u.place s)) → drop at (lexemes s ts) ≡ ident x ∷ r → (y ≡ x.bytes) × (t.place ≡ x.place)
+word_is s ts at t x r y e f h = name_is s ts at t x r y e (f t (e (inside s ts at (ident x) r h))) h
+
 pub next_is : (ls : List Lexeme) (at : ℕ) (l : Lexeme) (r : List Lexeme) → drop at ls ≡ l ∷ r → drop (at + 1) ls ≡ r
 next_is [] zero l r h = let z : ◌≡◌ {A = ℕ} 0 1 = cc in absurd (omega arith)
 next_is [] (suc at) l r h = let z : ◌≡◌ {A = ℕ} 0 1 = cc in absurd (omega arith)

@@ -12,6 +12,7 @@ pub mod Wholes
 pub mod Growing
 pub mod Along
 pub mod Checked
+pub mod Scalars
 pub mod Forms
 pub mod Leaves
 pub mod Loops
@@ -24,5 +25,4 @@ pub mod Sequences
 pub mod Heads
 pub mod Items
 pub mod Mains
-pub mod Copies
 pub mod Telling

@@ -120,13 +120,6 @@ module _ (ts : List Token) (at : ℕ) (k : Token) (m : at < length ts → slice_
           )),
     )
 
-pub and_left : (a b : Bool) → false ≡ a → (a && b) ≡ false
-and_left a b h = rw (sym h) refl
-
-pub and_right : (a b : Bool) → false ≡ b → (a && b) ≡ false
-and_right true b h = sym h
-and_right false b h = refl
-
 -- The start and the stop of a `for`.
 module _ (s : List ℕ) (ts : List Token) (at name a b : ℕ) (N : Held Name) (C D : Held Instruction) (na : name < length ts → a ≡ name + 1) (nb : a < length ts → b ≡ a + 1) where
   module _ (p : ℕ) (q : ℕ × ℕ × ℕ × ℕ × ℕ) (x : Ident) (e f : Expr) (t : Stmt) (J : Held Jump) (h : StmtAt s ts at (work N J C) (for_to p q x e f t)) (w : name ≡ at + 1 + 1 + 1) where

@@ -1,7 +1,9 @@
 -- What is told of a name, by what its record or the names in force say of its text.
 use Rattle.std.proofs.Common.{◌≡◌, ℕ, ◌+◌, ◌<◌, ◌≤◌, Bool, true, false, cond, ◌&&◌, leb, List, [], ◌∷◌, Some, None, Option, sym, refl, ◌∙◌, arith}
+use Rattle.std.specs.Option.{ok_or}
 use Rattle.std.proofs.lemmas.Bool.Decides.{nat_tests}
-use Rattle.refusal.specs.Told.{accepted, refused}
+use Rattle.refusal.specs.Told.{accepted, refused, number_of}
+use Rattle.refusal.specs.declared.reason.Refusal.{Refusal}
 use Rattle.meaning.specs.declared.operator.Scalar.{Scalar}
 use Rattle.meaning.specs.declared.operator.Scalar.TheVariants.{Bool as bool, Char as char, Int as int}
 use Rattle.meaning.specs.Check.{Scope, then, needs, room, as_variable, as_callee, defined, declared}
@@ -14,7 +16,8 @@ use Rattle.translator.specs.declared.name.Entry.{Entry}
 use Rattle.translator.specs.declared.name.Entry.TheVariants.{Level, Variable, Stop, Function}
 use Rattle.translator.specs.declared.name.Callee as Listed
 use Rattle.translator.specs.declared.name.Callee.TheVariants as C
-use Rattle.translator.specs.Names.{callee_of, callable_of, Says, return_of, types_of, is_int, is_none, fitting}
+use Rattle.translator.specs.declared.name.Name.{Name}
+use Rattle.translator.specs.Names.{callee_of, callable_of, Says, Finds, FoundIs, CalleeIs, return_of, types_of, is_int, is_none, fitting}
 
 -- what is told of a name that another is, at another's place
 module _ (Γ : Scope) (y : List ℕ) (x : Ident) (p : ℕ) (b : y ≡ x.bytes) (q : p ≡ x.place) where
@@ -87,6 +90,18 @@ module _ (Γ : Scope) (y : List ℕ) (x : Ident) (p : ℕ) (b : y ≡ x.bytes) (
   pub declared_new : (f : Callee) → false ≡ defined_here y Γ → declared x (Some f) Γ ≡ accepted (Scopes.function f ∷ Γ)
   unfolding declared then needs
   declared_new f h = rw (sym b, sym h) refl
+
+-- what is found of a name, or the fault of one that is absent
+pub found_as : (s : List ℕ) (ns : List Name) (y : List ℕ) (x : Ident) (o : Option (ℕ × Entry)) (f : Refusal) → y ≡ x.bytes → number_of f.reason ≡ 13 → f.place ≡ x.place
+    → Finds s ns y o → FoundIs s ns x.bytes x.place (ok_or o f)
+found_as s ns y x None f b n q h = (rw b at h, n, q)
+found_as s ns y x (Some r) f b n q h = rw b at h
+
+-- the function that a record found stands for, or the fault of one that cannot be called
+pub callee_as : (Γ : Scope) (x : Ident) (e : Entry) (c : ℕ) (o : Option Listed.Callee) (f : Refusal) → o ≡ callable_of e → number_of f.reason ≡ 14 → f.place ≡ x.place
+    → Says e x.bytes Γ c → CalleeIs Γ x.bytes x.place (ok_or o f)
+callee_as Γ x e c None f k n q h = rw n (no_callee Γ x.bytes x f.place refl q e c k h)
+callee_as Γ x e c (Some g) f k n q h = a_function_is Γ x.bytes x x.place refl refl e c g k h
 
 -- The types of a function, one by one.
 

@@ -44,21 +44,21 @@ use Rattle.translator.proofs.Joining.{place_is, placed_at}
 
 -- How an operand begins.
 
-abbrev pub start_by : Expr → Start
-start_by (constant c) = S.Constant
-start_by (variable x) = S.Name
-start_by (call x q xs) = S.Name
-start_by (bracket q e) = S.Bracket
-start_by (unary u p e) = S.Prefix
-start_by (binary o p a b) = S.Nothing
+abbrev pub start_by : Expr → Option Start
+start_by (constant c) = Some S.Constant
+start_by (variable x) = Some S.Name
+start_by (call x q xs) = Some S.Name
+start_by (bracket q e) = Some S.Bracket
+start_by (unary u p e) = Some S.Prefix
+start_by (binary o p a b) = None
 
-literal-start : (c : Constant) → start_of (Some (literal c).kind) ≡ S.Constant
+literal-start : (c : Constant) → start_of (Some (literal c).kind) ≡ Some S.Constant
 literal-start (number v p) = refl
 literal-start (character v p) = refl
 literal-start (truth true p) = refl
 literal-start (truth false p) = refl
 
-unary_start : (u : Unary) → start_of (Some (unary_kind u)) ≡ S.Prefix
+unary_start : (u : Unary) → start_of (Some (unary_kind u)) ≡ Some S.Prefix
 unary_start negate = refl
 unary_start invert = refl
 
@@ -72,7 +72,7 @@ start_is s ts at (unary u p e) r g h = ap start_of (seen-sign s ts at (unary_kin
 start_is s ts at (binary o p a b) r g h = let l = looseness_positive o in let z = g.0 in absurd (omega arith)
 
 -- an operand begins somehow
-pub never_starts : (e : Expr) → Grouped e 0 → S.Nothing ≡ start_by e → ⊥
+pub never_starts : (e : Expr) → Grouped e 0 → None ≡ start_by e → ⊥
 never_starts (constant c) g z = let w : ◌≡◌ {A = ℕ} 0 1 = cc in omega arith
 never_starts (variable x) g z = let w : ◌≡◌ {A = ℕ} 0 1 = cc in omega arith
 never_starts (call x q xs) g z = let w : ◌≡◌ {A = ℕ} 0 1 = cc in omega arith
@@ -101,50 +101,50 @@ module _ (s : List ℕ) (ts : List Token) (at : ℕ) (Γ : Scope) (C D : Held In
   abbrev pub Handled : Expr → Type 0
   Handled e = (h : ExprAt 0 s ts at Γ C e) → ExprDone s ts Γ D e h.rest h.code r
 
-  seen_start : (x : Start) → x ≡ start_of (seen ts at) → (e : Expr) (h : ExprAt 0 s ts at Γ C e) → x ≡ start_by e
+  seen_start : (x : Option Start) → x ≡ start_of (seen ts at) → (e : Expr) (h : ExprAt 0 s ts at Γ C e) → x ≡ start_by e
   seen_start x z e h = z ∙ start_is s ts at e h.rest h.grouped h.stands
 
-  pub when_constant : S.Constant ≡ start_of (seen ts at) → ((k : Constant) → Handled (constant k)) → (e : Expr) → Handled e
+  pub when_constant : (Some S.Constant) ≡ start_of (seen ts at) → ((k : Constant) → Handled (constant k)) → (e : Expr) → Handled e
   when_constant z f (constant k) h = f k h
-  when_constant z f (variable x) h = let q = seen_start S.Constant z (variable x) h in let w : ◌≡◌ {A = ℕ} 0 1 = cc in absurd (omega arith)
-  when_constant z f (call x p xs) h = let q = seen_start S.Constant z (call x p xs) h in let w : ◌≡◌ {A = ℕ} 0 1 = cc in absurd (omega arith)
-  when_constant z f (bracket p e) h = let q = seen_start S.Constant z (bracket p e) h in let w : ◌≡◌ {A = ℕ} 0 1 = cc in absurd (omega arith)
-  when_constant z f (unary u p e) h = let q = seen_start S.Constant z (unary u p e) h in let w : ◌≡◌ {A = ℕ} 0 1 = cc in absurd (omega arith)
+  when_constant z f (variable x) h = let q = seen_start (Some S.Constant) z (variable x) h in let w : ◌≡◌ {A = ℕ} 0 1 = cc in absurd (omega arith)
+  when_constant z f (call x p xs) h = let q = seen_start (Some S.Constant) z (call x p xs) h in let w : ◌≡◌ {A = ℕ} 0 1 = cc in absurd (omega arith)
+  when_constant z f (bracket p e) h = let q = seen_start (Some S.Constant) z (bracket p e) h in let w : ◌≡◌ {A = ℕ} 0 1 = cc in absurd (omega arith)
+  when_constant z f (unary u p e) h = let q = seen_start (Some S.Constant) z (unary u p e) h in let w : ◌≡◌ {A = ℕ} 0 1 = cc in absurd (omega arith)
   when_constant z f (binary o p a b) h = never_binary o 0 p a b h.grouped
 
-  pub when_prefix : S.Prefix ≡ start_of (seen ts at) → ((u : Unary) (p : ℕ) (e : Expr) → Handled (unary u p e)) → (e : Expr) → Handled e
-  when_prefix z f (constant k) h = let q = seen_start S.Prefix z (constant k) h in let w : ◌≡◌ {A = ℕ} 0 1 = cc in absurd (omega arith)
-  when_prefix z f (variable x) h = let q = seen_start S.Prefix z (variable x) h in let w : ◌≡◌ {A = ℕ} 0 1 = cc in absurd (omega arith)
-  when_prefix z f (call x p xs) h = let q = seen_start S.Prefix z (call x p xs) h in let w : ◌≡◌ {A = ℕ} 0 1 = cc in absurd (omega arith)
-  when_prefix z f (bracket p e) h = let q = seen_start S.Prefix z (bracket p e) h in let w : ◌≡◌ {A = ℕ} 0 1 = cc in absurd (omega arith)
+  pub when_prefix : (Some S.Prefix) ≡ start_of (seen ts at) → ((u : Unary) (p : ℕ) (e : Expr) → Handled (unary u p e)) → (e : Expr) → Handled e
+  when_prefix z f (constant k) h = let q = seen_start (Some S.Prefix) z (constant k) h in let w : ◌≡◌ {A = ℕ} 0 1 = cc in absurd (omega arith)
+  when_prefix z f (variable x) h = let q = seen_start (Some S.Prefix) z (variable x) h in let w : ◌≡◌ {A = ℕ} 0 1 = cc in absurd (omega arith)
+  when_prefix z f (call x p xs) h = let q = seen_start (Some S.Prefix) z (call x p xs) h in let w : ◌≡◌ {A = ℕ} 0 1 = cc in absurd (omega arith)
+  when_prefix z f (bracket p e) h = let q = seen_start (Some S.Prefix) z (bracket p e) h in let w : ◌≡◌ {A = ℕ} 0 1 = cc in absurd (omega arith)
   when_prefix z f (unary u p e) h = f u p e h
   when_prefix z f (binary o p a b) h = never_binary o 0 p a b h.grouped
 
-  pub when_bracket : S.Bracket ≡ start_of (seen ts at) → ((q : ℕ × ℕ) (e : Expr) → Handled (bracket q e)) → (e : Expr) → Handled e
-  when_bracket z f (constant k) h = let q = seen_start S.Bracket z (constant k) h in let w : ◌≡◌ {A = ℕ} 0 1 = cc in absurd (omega arith)
-  when_bracket z f (variable x) h = let q = seen_start S.Bracket z (variable x) h in let w : ◌≡◌ {A = ℕ} 0 1 = cc in absurd (omega arith)
-  when_bracket z f (call x p xs) h = let q = seen_start S.Bracket z (call x p xs) h in let w : ◌≡◌ {A = ℕ} 0 1 = cc in absurd (omega arith)
+  pub when_bracket : (Some S.Bracket) ≡ start_of (seen ts at) → ((q : ℕ × ℕ) (e : Expr) → Handled (bracket q e)) → (e : Expr) → Handled e
+  when_bracket z f (constant k) h = let q = seen_start (Some S.Bracket) z (constant k) h in let w : ◌≡◌ {A = ℕ} 0 1 = cc in absurd (omega arith)
+  when_bracket z f (variable x) h = let q = seen_start (Some S.Bracket) z (variable x) h in let w : ◌≡◌ {A = ℕ} 0 1 = cc in absurd (omega arith)
+  when_bracket z f (call x p xs) h = let q = seen_start (Some S.Bracket) z (call x p xs) h in let w : ◌≡◌ {A = ℕ} 0 1 = cc in absurd (omega arith)
   when_bracket z f (bracket p e) h = f p e h
-  when_bracket z f (unary u p e) h = let q = seen_start S.Bracket z (unary u p e) h in let w : ◌≡◌ {A = ℕ} 0 1 = cc in absurd (omega arith)
+  when_bracket z f (unary u p e) h = let q = seen_start (Some S.Bracket) z (unary u p e) h in let w : ◌≡◌ {A = ℕ} 0 1 = cc in absurd (omega arith)
   when_bracket z f (binary o p a b) h = never_binary o 0 p a b h.grouped
 
-  pub when_nothing : S.Nothing ≡ start_of (seen ts at) → (e : Expr) → Handled e
-  when_nothing z e h = absurd (never_starts e h.grouped (seen_start S.Nothing z e h))
+  pub when_nothing : None ≡ start_of (seen ts at) → (e : Expr) → Handled e
+  when_nothing z e h = absurd (never_starts e h.grouped (seen_start None z e h))
 
-  pub when_call : S.Name ≡ start_of (seen ts at) → is_kind (seen ts (at + 1)) K.OpenParen ≡ true → ((x : Ident) (q : ℕ × ℕ) (xs : Args) → Handled (call x q xs)) → (e : Expr) → Handled e
-  when_call z y f (constant k) h = let q = seen_start S.Name z (constant k) h in let w : ◌≡◌ {A = ℕ} 0 1 = cc in absurd (omega arith)
+  pub when_call : (Some S.Name) ≡ start_of (seen ts at) → is_kind (seen ts (at + 1)) K.OpenParen ≡ true → ((x : Ident) (q : ℕ × ℕ) (xs : Args) → Handled (call x q xs)) → (e : Expr) → Handled e
+  when_call z y f (constant k) h = let q = seen_start (Some S.Name) z (constant k) h in let w : ◌≡◌ {A = ℕ} 0 1 = cc in absurd (omega arith)
   when_call z y f (variable x) h = let q : true ≡ false = sym y ∙ variable_alone s ts at Γ C x h in let w : ◌≡◌ {A = ℕ} 0 1 = cc in absurd (omega arith)
   when_call z y f (call x p xs) h = f x p xs h
-  when_call z y f (bracket p e) h = let q = seen_start S.Name z (bracket p e) h in let w : ◌≡◌ {A = ℕ} 0 1 = cc in absurd (omega arith)
-  when_call z y f (unary u p e) h = let q = seen_start S.Name z (unary u p e) h in let w : ◌≡◌ {A = ℕ} 0 1 = cc in absurd (omega arith)
+  when_call z y f (bracket p e) h = let q = seen_start (Some S.Name) z (bracket p e) h in let w : ◌≡◌ {A = ℕ} 0 1 = cc in absurd (omega arith)
+  when_call z y f (unary u p e) h = let q = seen_start (Some S.Name) z (unary u p e) h in let w : ◌≡◌ {A = ℕ} 0 1 = cc in absurd (omega arith)
   when_call z y f (binary o p a b) h = never_binary o 0 p a b h.grouped
 
-  pub when_variable : S.Name ≡ start_of (seen ts at) → is_kind (seen ts (at + 1)) K.OpenParen ≡ false → ((x : Ident) → Handled (variable x)) → (e : Expr) → Handled e
-  when_variable z y f (constant k) h = let q = seen_start S.Name z (constant k) h in let w : ◌≡◌ {A = ℕ} 0 1 = cc in absurd (omega arith)
+  pub when_variable : (Some S.Name) ≡ start_of (seen ts at) → is_kind (seen ts (at + 1)) K.OpenParen ≡ false → ((x : Ident) → Handled (variable x)) → (e : Expr) → Handled e
+  when_variable z y f (constant k) h = let q = seen_start (Some S.Name) z (constant k) h in let w : ◌≡◌ {A = ℕ} 0 1 = cc in absurd (omega arith)
   when_variable z y f (variable x) h = f x h
   when_variable z y f (call x p xs) h = let q : true ≡ false = sym (call_open s ts at Γ C x p xs h) ∙ y in let w : ◌≡◌ {A = ℕ} 0 1 = cc in absurd (omega arith)
-  when_variable z y f (bracket p e) h = let q = seen_start S.Name z (bracket p e) h in let w : ◌≡◌ {A = ℕ} 0 1 = cc in absurd (omega arith)
-  when_variable z y f (unary u p e) h = let q = seen_start S.Name z (unary u p e) h in let w : ◌≡◌ {A = ℕ} 0 1 = cc in absurd (omega arith)
+  when_variable z y f (bracket p e) h = let q = seen_start (Some S.Name) z (bracket p e) h in let w : ◌≡◌ {A = ℕ} 0 1 = cc in absurd (omega arith)
+  when_variable z y f (unary u p e) h = let q = seen_start (Some S.Name) z (unary u p e) h in let w : ◌≡◌ {A = ℕ} 0 1 = cc in absurd (omega arith)
   when_variable z y f (binary o p a b) h = never_binary o 0 p a b h.grouped
 
   -- a minus or a `!`

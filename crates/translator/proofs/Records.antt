@@ -1,10 +1,10 @@
 -- The names that records put in force, one record after another.
-use Rattle.std.proofs.Common.{◌≡◌, ℕ, zero, suc, ◌+◌, Bool, true, false, cond, ltb, ◌⊎◌, List, [], ◌∷◌, ◌++◌, length, take, Some, None, Decides, sym, refl, ap, ◌∙◌, ⊎_elim, arith, lt-ltb}
-use native.Mathlib.Numerals.{unary_clauses}
+use Rattle.std.proofs.Common.{◌≡◌, ℕ, zero, suc, ◌+◌, ◌-◌, ◌<◌, ◌≤◌, get_or, Bool, true, false, cond, ltb, List, [], ◌∷◌, ◌++◌, length, take, count_by, Some, None, Decides, sym, refl, ap, ◌∙◌, arith, lt-ltb}
 use Rattle.std.proofs.lemmas.Slice.Eq.{IsBytesEq, compares_Decides}
-use Rattle.std.proofs.lemmas.List.{take_all}
+use Rattle.std.proofs.lemmas.List.{nil_from_length, take_all, take_more}
 use Rattle.std.proofs.lemmas.Bool.Decides.{same_from_decides}
-use Rattle.std.specs.List.{slice_get}
+use Rattle.std.proofs.lemmas.List.Sums.{length-filter, sum_by-cons}
+use Rattle.std.specs.List.{filter, push}
 use Rattle.meaning.specs.declared.operator.Scalar.{Scalar}
 use Rattle.meaning.specs.Check.{Scope}
 use Rattle.meaning.specs.Scopes.{same_name, lookup, defined_here, cells}
@@ -31,22 +31,8 @@ unfolding stacked
 stacked_more s [] n Γ = refl
 stacked_more s (m ∷ ns) n Γ = stacked_more s ns n (entry_of s m ∷ Γ)
 
-take_more : (ns : List Name) (i : ℕ) (n : Name) → slice_get ns i ≡ Some n → take (i + 1) ns ≡ take i ns ++ (n ∷ [])
-take_more [] i n e = let z : ◌≡◌ {A = ℕ} 0 1 = cc in absurd (omega arith)
-take_more (m ∷ ns) zero n e = cc
-take_more (m ∷ ns) (suc i) n e = simp unary_clauses (ap (λ (l : List Name). m ∷ l) (simp unary_clauses at (take_more ns i n e)))
-
-take_past : (ns : List Name) (i : ℕ) → slice_get ns i ≡ None → take (i + 1) ns ≡ take i ns
-take_past [] zero e = refl
-take_past [] (suc i) e = simp unary_clauses refl
-take_past (m ∷ ns) zero e = let z : ◌≡◌ {A = ℕ} 0 1 = cc in absurd (omega arith)
-take_past (m ∷ ns) (suc i) e = simp unary_clauses (ap (λ (l : List Name). m ∷ l) (simp unary_clauses at (take_past ns i e)))
-
-pub scope_more : (s : List ℕ) (ns : List Name) (i j : ℕ) → j ≡ i + 1 → (n : Name) → Some n ≡ slice_get ns i → scope_of s (take j ns) ≡ entry_of s n ∷ scope_of s (take i ns)
-scope_more s ns i j k n e = rw k (ap (scope_of s) (take_more ns i n (sym e)) ∙ stacked_more s (take i ns) n [])
-
-pub scope_past : (s : List ℕ) (ns : List Name) (i j : ℕ) → j ≡ i + 1 → None ≡ slice_get ns i → scope_of s (take j ns) ≡ scope_of s (take i ns)
-scope_past s ns i j k e = rw k (ap (scope_of s) (take_past ns i (sym e)))
+scope_more : (s : List ℕ) (ns : List Name) (i : ℕ) (d : Name) → i < length ns → scope_of s (take (i + 1) ns) ≡ entry_of s (get_or ns i d) ∷ scope_of s (take i ns)
+scope_more s ns i d h = ap (scope_of s) (take_more ns i d h) ∙ stacked_more s (take i ns) _ []
 
 -- Looking a name up, past an entry that does not define it.
 
@@ -80,32 +66,36 @@ said Stop x Γ Δ c p q h = h
 said (Function f) x Γ Δ c p q h = p ∙ h
 
 -- The records from i on do not define a name: the older ones say what all of them do.
-pub record Unnamed (s : List ℕ) (ns : List Name) (x : List ℕ) (i : ℕ) : Type 0 where
-  pub means : lookup x (scope_of s ns) ≡ lookup x (scope_of s (take i ns))
-  pub cell : cell_of x (scope_of s ns) ≡ cell_of x (scope_of s (take i ns))
+record Unnamed (s : List ℕ) (ns : List Name) (x : List ℕ) (i : ℕ) : Type 0 where
+  means : lookup x (scope_of s ns) ≡ lookup x (scope_of s (take i ns))
+  cell : cell_of x (scope_of s ns) ≡ cell_of x (scope_of s (take i ns))
 
-module _ (s : List ℕ) (ns : List Name) (x : List ℕ) where
-  pub unnamed_none : Unnamed s ns x (length ns)
-  unnamed_none = let a : take (length ns) ns ≡ ns = take_all (length ns) ns (omega arith) in record { means = rw a refl; cell = rw a refl }
+module _ (s : List ℕ) (ns : List Name) (x : List ℕ) (d : Name) where
+  -- no record from here on defines the name; d stands for a record past the newest
+  abbrev pub Misses : ℕ → Type 0
+  Misses i = (k : ℕ) → i ≤ k → k < length ns → false ≡ defining x (entry_of s (get_or ns k d))
 
-  unnamed_by : (i j : ℕ) (Γ : Scope) → scope_of s (take j ns) ≡ Γ → lookup x Γ ≡ lookup x (scope_of s (take i ns)) → cell_of x Γ ≡ cell_of x (scope_of s (take i ns)) → Unnamed s ns x j → Unnamed s ns x i
-  unnamed_by i j Γ e p q u = record { means = u.means ∙ ap (lookup x) e ∙ p; cell = u.cell ∙ ap (cell_of x) e ∙ q }
+  unnamed : (m i : ℕ) → i + m ≡ length ns → Misses i → Unnamed s ns x i
+  unnamed zero i e h = let a : take i ns ≡ ns = take_all i ns (omega (arith, e)) in record { means = rw a refl; cell = rw a refl }
+  unnamed (suc m) i e h =
+      let lt : i < length ns = omega (arith, e) in
+      let f : false ≡ defining x (entry_of s (get_or ns i d)) = h i (omega arith) lt in
+      let g : scope_of s (take (i + 1) ns) ≡ entry_of s (get_or ns i d) ∷ scope_of s (take i ns) = scope_more s ns i d lt in
+      let u : Unnamed s ns x (i + 1) = unnamed m (i + 1) (omega (arith, e)) (λ k l. h k (omega (arith, l))) in
+      record {
+        means = u.means ∙ ap (lookup x) g ∙ lookup-past x _ _ (sym f);
+        cell = u.cell ∙ ap (cell_of x) g ∙ cell_past x _ _ (sym f);
+      }
 
-  pub unnamed_past : (i j : ℕ) → j ≡ i + 1 → None ≡ slice_get ns i → Unnamed s ns x j → Unnamed s ns x i
-  unnamed_past i j k e u = unnamed_by i j _ (scope_past s ns i j k e) refl refl u
-
-  pub unnamed_more : (i j : ℕ) → j ≡ i + 1 → (n : Name) → Some n ≡ slice_get ns i → false ≡ defining x (entry_of s n) → Unnamed s ns x j → Unnamed s ns x i
-  unnamed_more i j k n e h u =
-      unnamed_by i j _ (scope_more s ns i j k n e) (lookup-past x (entry_of s n) _ (sym h)) (cell_past x (entry_of s n) _ (sym h)) u
-
-  pub finds_some : (i j : ℕ) → j ≡ i + 1 → (n : Name) → Some n ≡ slice_get ns i → true ≡ defining x (entry_of s n) → Unnamed s ns x j → Finds s ns x (Some (i, n.entry))
-  finds_some i j k n e h u =
-      let f : scope_of s (take j ns) ≡ entry_of s n ∷ scope_of s (take i ns) = scope_more s ns i j k n e in
-      said n.entry x _ _ _ (u.means ∙ ap (lookup x) f) (u.cell ∙ ap (cell_of x) f) (found n.entry x _ _ (sym h))
-
-  pub finds_none : Unnamed s ns x 0 → Finds s ns x None
+  pub finds_none : Misses 0 → Finds s ns x None
   unfolding stacked lookup
-  finds_none u = u.means
+  finds_none h = (unnamed (length ns) 0 (omega arith) h).means
+
+  pub finds_some : (i : ℕ) → i < length ns → true ≡ defining x (entry_of s (get_or ns i d)) → Misses (i + 1) → Finds s ns x (Some (i, (get_or ns i d).entry))
+  finds_some i lt f h =
+      let g : scope_of s (take (i + 1) ns) ≡ entry_of s (get_or ns i d) ∷ scope_of s (take i ns) = scope_more s ns i d lt in
+      let u : Unnamed s ns x (i + 1) = unnamed (length ns - (i + 1)) (i + 1) (omega (arith, lt)) h in
+      said (get_or ns i d).entry x _ _ _ (u.means ∙ ap (lookup x) g) (u.cell ∙ ap (cell_of x) g) (found (get_or ns i d).entry x _ _ (sym f))
 
 -- The newest level, searched for a definition.
 
@@ -128,23 +118,17 @@ here_past x Stop y Γ l h = refl
 here_past x (Function f) y Γ l h = rw h refl
 
 module _ (s : List ℕ) (ns : List Name) (x : List ℕ) where
-  -- the records from i on neither define the name nor begin a level
-  abbrev pub Open : ℕ → Type 0
-  Open i = defined_here x (scope_of s ns) ≡ defined_here x (scope_of s (take i ns))
+  -- the records after these neither define the name nor begin a level
+  abbrev pub Open : List Name → Type 0
+  Open ms = defined_here x (scope_of s ns) ≡ defined_here x (scope_of s ms)
 
-  pub open_none : Open (length ns)
-  open_none = rw (take_all (length ns) ns (omega arith)) refl
-
-  pub open_all : Open 0 → false ≡ defined_here x (scope_of s ns)
+  pub open_all : (ms : List Name) → length ms ≡ 0 → Open ms → false ≡ defined_here x (scope_of s ns)
   unfolding stacked defined_here
-  open_all o = sym o
+  open_all ms e o = sym (o ∙ ap (λ (k : List Name). defined_here x (scope_of s k)) (nil_from_length ms e))
 
-  pub open_past : (i j : ℕ) → j ≡ i + 1 → None ≡ slice_get ns i → Open j → Open i
-  open_past i j k e o = o ∙ ap (defined_here x) (scope_past s ns i j k e)
-
-  module _ (i j : ℕ) (k : j ≡ i + 1) (n : Name) (e : Some n ≡ slice_get ns i) (o : Open j) where
-    newest : defined_here x (scope_of s ns) ≡ defined_here x (entry_of s n ∷ scope_of s (take i ns))
-    newest = o ∙ ap (defined_here x) (scope_more s ns i j k n e)
+  module _ (ms ls : List Name) (n : Name) (e : ms ≡ push ls n) (o : Open ms) where
+    newest : defined_here x (scope_of s ns) ≡ defined_here x (entry_of s n ∷ scope_of s ls)
+    newest = o ∙ ap (λ (k : List Name). defined_here x (scope_of s k)) e ∙ ap (defined_here x) (stacked_more s ls n [])
 
     pub open_level : n.entry ≡ Level → false ≡ defined_here x (scope_of s ns)
     open_level h = sym (newest ∙ here_level x n.entry _ _ h)
@@ -152,38 +136,37 @@ module _ (s : List ℕ) (ns : List Name) (x : List ℕ) where
     pub open_found : true ≡ defining x (entry_of s n) → true ≡ defined_here x (scope_of s ns)
     open_found h = sym (newest ∙ here_found x (entry_of s n) _ (sym h))
 
-    pub open_more : (n.entry ≡ Level → ⊥) → false ≡ defining x (entry_of s n) → Open i
+    pub open_more : (n.entry ≡ Level → ⊥) → false ≡ defining x (entry_of s n) → Open ls
     open_more l h = newest ∙ here_past x n.entry _ _ l (sym h)
 
 -- Counting cells.
 
-pub cells-none : (s : List ℕ) → 0 ≡ cells (scope_of s [])
-unfolding stacked cells
-cells-none s = refl
+-- whether a record of a kind has a cell
+abbrev pub has_cell : Entry → Bool
+has_cell Level = false
+has_cell (Variable t) = true
+has_cell Stop = true
+has_cell (Function f) = false
 
-with_cell : (e : Entry) (y : List ℕ) (Γ : Scope) → ((t : Scalar) × (e ≡ Variable t)) ⊎ (e ≡ Stop) → cells Γ + 1 ≡ cells (entry_as e y ∷ Γ)
+cells_more : (e : Entry) (y : List ℕ) (Γ : Scope) → cells (entry_as e y ∷ Γ) ≡ cond (has_cell e) 1 0 + cells Γ
 unfolding cells
-with_cell Level y Γ h = let z : ◌≡◌ {A = ℕ} 0 1 = ⊎_elim (λ a. let b = a.1 in cc) (λ b. cc) h in absurd (omega arith)
-with_cell (Variable t) y Γ h = omega arith
-with_cell Stop y Γ h = omega arith
-with_cell (Function f) y Γ h = let z : ◌≡◌ {A = ℕ} 0 1 = ⊎_elim (λ a. let b = a.1 in cc) (λ b. cc) h in absurd (omega arith)
+cells_more Level y Γ = omega arith
+cells_more (Variable t) y Γ = omega arith
+cells_more Stop y Γ = omega arith
+cells_more (Function f) y Γ = omega arith
 
-without_cell : (e : Entry) (y : List ℕ) (Γ : Scope) → ((t : Scalar) → e ≡ Variable t → ⊥) → (e ≡ Stop → ⊥) → cells Γ ≡ cells (entry_as e y ∷ Γ)
+cells-count_by : (s : List ℕ) (ns : List Name) (Γ : Scope) → cells (stacked s ns Γ) ≡ count_by (λ n. has_cell n.entry) ns + cells Γ
+unfolding stacked
+cells-count_by s [] Γ = omega arith
+cells-count_by s (n ∷ ns) Γ =
+    let h : cells (entry_of s n ∷ Γ) ≡ cond (has_cell n.entry) 1 0 + cells Γ = cells_more n.entry _ Γ in
+    let k : count_by (λ n. has_cell n.entry) (n ∷ ns) ≡ cond (has_cell n.entry) 1 0 + count_by (λ n. has_cell n.entry) ns = sum_by-cons _ n ns in
+    cells-count_by s ns (entry_of s n ∷ Γ) ∙ omega (arith, h, k)
+
+-- as many as the records that have one
+pub cells_lem : (s : List ℕ) (ns : List Name) → length (filter (λ (n : Name). has_cell n.entry) ns) ≡ cells (scope_of s ns)
 unfolding cells
-without_cell Level y Γ h g = refl
-without_cell (Variable t) y Γ h g = absurd (h t refl)
-without_cell Stop y Γ h g = absurd (g refl)
-without_cell (Function f) y Γ h g = refl
-
-module _ (s : List ℕ) (ns : List Name) (i m : ℕ) (h : m ≡ cells (scope_of s (take i ns))) where
-  pub cells-past : None ≡ slice_get ns i → m ≡ cells (scope_of s (take (i + 1) ns))
-  cells-past e = h ∙ ap cells (sym (scope_past s ns i (i + 1) refl e))
-
-  pub cells_more : (n : Name) → Some n ≡ slice_get ns i → ((t : Scalar) × (n.entry ≡ Variable t)) ⊎ (n.entry ≡ Stop) → m + 1 ≡ cells (scope_of s (take (i + 1) ns))
-  cells_more n e k = rw h (with_cell n.entry _ _ k ∙ ap cells (sym (scope_more s ns i (i + 1) refl n e)))
-
-  pub cells_same : (n : Name) → Some n ≡ slice_get ns i → ((t : Scalar) → n.entry ≡ Variable t → ⊥) → (n.entry ≡ Stop → ⊥) → m ≡ cells (scope_of s (take (i + 1) ns))
-  cells_same n e k g = h ∙ without_cell n.entry _ _ k g ∙ ap cells (sym (scope_more s ns i (i + 1) refl n e))
+cells_lem s ns = let h : cells (scope_of s ns) ≡ count_by (λ n. has_cell n.entry) ns + 0 = cells-count_by s ns [] in length-filter _ ns ∙ sym (omega (arith, h))
 
 pub cells_all : (s : List ℕ) (ns : List Name) (n m : ℕ) → n ≡ length ns → m ≡ cells (scope_of s (take n ns)) → m ≡ cells (scope_of s ns)
 cells_all s ns n m e h = h ∙ ap (λ (k : List Name). cells (scope_of s k)) (take_all n ns (omega arith))

@@ -20,7 +20,7 @@ use Rattle.meaning.proofs.Stack.{is_word, loose, Tail, done, link, attach}
 use Rattle.meaning.proofs.Parsed.{tail_lexemes, FineTail, NoCall, EndsE, EndsTail}
 use Rattle.meaning.proofs.Spine.{looseness_positive, loose_positive}
 use Rattle.parser.proofs.Look.{tok_at, sees}
-use Rattle.parser.proofs.Expressions.{loose-seen, loose_is}
+use Rattle.parser.proofs.Expressions.{loose-seen}
 use Rattle.machine.specs.declared.instruction.Instruction.{Instruction}
 use Rattle.layout.proofs.Compiled.{Shape, strict, both, either, shape_of, binary_end, expr_end, expr_code}
 use Rattle.layout.proofs.Ends.{past_grows, expr_grows}
@@ -206,18 +206,18 @@ no_level n z s ts first Γ C e h =
     (ap (λ (x : Expr). type_of x Γ) (sym a.0) ∙ h.typed, h.stands ∙ a.1 h.rest, h.begun ∙ ap (λ (x : Expr). coded (h.code ++ expr_code x Γ (length h.code))) a.0)
 
 -- what code sees of the next operator
-no_operator : (s : List ℕ) (ts : List Token) (i n : ℕ) (r : List Lexeme) → 0 < n → drop i (lexemes s ts) ≡ r → eqb (loose (next r)) n ≡ false → looseness_of (seen ts i) ≡ n → ⊥
-no_operator s ts i n r z e f l =
-    let k = loose_is n (tok_at s ts i) (rw l at (loose-seen (seen ts i) (tok_at s ts i) (sees s ts i))) z in
+no_operator : (s : List ℕ) (ts : List Token) (i n : ℕ) (r : List Lexeme) → drop i (lexemes s ts) ≡ r → eqb (loose (next r)) n ≡ false → looseness_of (seen ts i) ≡ Some n → ⊥
+no_operator s ts i n r e f l =
+    let k = rw l at (loose-seen (seen ts i) (tok_at s ts i) (sees s ts i)) in
     let g : loose (next r) ≡ n = ap (λ (x : List Lexeme). loose (next x)) (sym e) ∙ ap loose k.2 ∙ k.3 in
     let w : eqb n n ≡ false = rw g at f in
     let q : eqb n n ≡ true = grind (arith, nat_tests) in
     let u : ◌≡◌ {A = Bool} true false = sym q ∙ w in let v : ◌≡◌ {A = ℕ} 0 1 = cc in omega arith
 
-operator_seen : (s : List ℕ) (ts : List Token) (i : ℕ) (o : Operator) (p : ℕ) (r : List Lexeme) → drop i (lexemes s ts) ≡ sign (binary_kind o) p ∷ r → looseness_of (seen ts i) ≡ looseness o
+operator_seen : (s : List ℕ) (ts : List Token) (i : ℕ) (o : Operator) (p : ℕ) (r : List Lexeme) → drop i (lexemes s ts) ≡ sign (binary_kind o) p ∷ r → looseness_of (seen ts i) ≡ Some (looseness o)
 operator_seen s ts i o p r e = ap looseness_of (seen-sign s ts i (binary_kind o) p r e) ∙ by o
   where
-    by : (q : Operator) → looseness_of (Some (binary_kind q)) ≡ looseness q
+    by : (q : Operator) → looseness_of (Some (binary_kind q)) ≡ Some (looseness q)
     by O.Add = refl
     by O.Subtract = refl
     by O.Multiply = refl
@@ -283,7 +283,7 @@ module _ (m n : ℕ) (next_level : n ≡ suc m) (s : List ℕ) (ts : List Token)
   turn o f = by f.tail f.same f.at f.ends_there f.begins-there
     where
       by : (t : Tail) → attach f.first t ≡ e → (h : TailAt n s ts left Γ C f.first t) → h.rest ≡ r → h.code ≡ k → Turn
-      by done q h u v = absurd (no_operator s ts left.end n h.rest (omega arith) h.stands h.ends o.0)
+      by done q h u v = absurd (no_operator s ts left.end n h.rest h.stands h.ends o.0)
       by (link x p b t) q h u v = turn_link f.first x p b t q h u v (o.1 x (seen-sign s ts left.end (binary_kind x) p _ h.stands))
 
   pub turned : (y : Turn) (next : Typed) (D : Held Instruction) → ExprDone s ts Γ D (binary op y.place y.before y.operand) y.join.rest y.join.code (Ok next) → Fewer n s ts next Γ D e r k
@@ -318,7 +318,7 @@ level_done n s ts left Γ C e r k o f = by f.tail f.same f.at f.ends_there f.beg
   where
     by : (t : Tail) → attach f.first t ≡ e → (h : TailAt n s ts left Γ C f.first t) → h.rest ≡ r → h.code ≡ k → ExprDone s ts Γ C e r k (Ok left)
     by done q h u v = (ap (λ (x : Expr). type_of x Γ) (sym q) ∙ h.typed, h.stands ∙ u, h.begun ∙ rw (q, v) refl)
-    by (link x p b t) q h u v = absurd (o (operator_seen s ts left.end x p _ h.stands ∙ h.fine.0))
+    by (link x p b t) q h u v = absurd (o (operator_seen s ts left.end x p _ h.stands ∙ ap Some h.fine.0))
 
 -- the loop: what is left of an expression is left of it later on
 abbrev pub Shrinks : ℕ → List ℕ → List Token → Scope → Typed → Held Instruction → Typed → Held Instruction → Type 0

@@ -71,7 +71,7 @@ module _ (s : List ℕ) (ts : List Token) (at : ℕ) (Γ : Scope) (C : Held Inst
       never_call x q xs k = let b : true ≡ false = sym (call-seen x q xs k) ∙ z in let w : ◌≡◌ {A = ℕ} 0 1 = cc in omega arith
 
   pub value-done : call_seen ts at ≡ false → (e : Expr) (h : ExprAt 6 s ts at Γ C e) (D : Held Instruction) (t : Typed) → ExprDone s ts Γ D e h.rest h.code (Ok t) →
-      WholeDone s ts Γ D e h.rest h.code (Ok (record { leaves = true; end = t.end }))
+      WholeDone s ts Γ D e h.rest h.code (Ok (record { gives = Some t.kind; end = t.end }))
   value-done z e h D t d = let v = no_call z e h in (valued_fine e Γ t.kind v d.0, d.1, d.2, v.leaves Γ)
 
 -- After the leftmost operand comes nothing more, or an operator.
@@ -165,7 +165,7 @@ call_refused x q xs Γ n p h = rw h refl
 -- An expression that begins with a call.
 
 module _ (s : List ℕ) (ts : List Token) (at : ℕ) (Γ : Scope) (C : Held Instruction) (seen-call : call_seen ts at ≡ true) where
-  name-seen : S.Name ≡ start_of (seen ts at)
+  name-seen : (Some S.Name) ≡ start_of (seen ts at)
   name-seen = sym (ap start_of (kind_found (seen ts at) K.Name (both_true _ _ seen-call).0))
 
   -- the operand there is a call
@@ -228,7 +228,7 @@ module _ (s : List ℕ) (ts : List Token) (at : ℕ) (Γ : Scope) (C : Held Inst
 
     module _ (p : ℕ) (ls : List Lexeme) (semicolon : h.rest ≡ sign K.Semicolon p ∷ ls) (b : Begun) (D : Held Instruction) (c : Called) (d : CallDone s ts Γ D b.name b.round b.list b.there.rest b.there.code (Ok c)) where
       -- a semicolon follows: the call is the whole
-      pub call_alone : is_kind (seen ts c.end) K.Semicolon ≡ true → WholeDone s ts Γ D e h.rest h.code (Ok (record { leaves = is_some c.gives; end = c.end }))
+      pub call_alone : is_kind (seen ts c.end) K.Semicolon ≡ true → WholeDone s ts Γ D e h.rest h.code (Ok c)
       call_alone z = ⊎_elim
           (λ a.
           let i : e ≡ call b.name b.round b.list = sym a.first ∙ b.first in (

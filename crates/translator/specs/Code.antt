@@ -4,34 +4,9 @@ use Rattle.stacks.specs.Held.{Held, holding, cut}
 use Rattle.machine.specs.declared.instruction.Instruction.{Instruction}
 use Rattle.layout.proofs.Compiled.{ins}
 use Rattle.translator.specs.Translation.{code_limit}
-use Rattle.translator.specs.declared.op.Op.{Op}
+use Rattle.machine.specs.declared.op.Op.{Op}
+use Rattle.machine.specs.Codes.{code_of}
 use Rattle.translator.specs.declared.pending.Jump.{Jump}
-use Rattle.translator.specs.declared.op.Op.TheVariants as O
-
--- the number of each instruction
-abbrev pub op_code : Op → ℕ
-op_code O.Push = 0
-op_code O.Load = 1
-op_code O.Store = 2
-op_code O.Pop = 3
-op_code O.Add = 4
-op_code O.Subtract = 5
-op_code O.Multiply = 6
-op_code O.Divide = 7
-op_code O.Remainder = 8
-op_code O.Low = 9
-op_code O.Less = 10
-op_code O.Greater = 11
-op_code O.Equal = 12
-op_code O.Not = 13
-op_code O.Jump = 14
-op_code O.JumpIfZero = 15
-op_code O.Tick = 16
-op_code O.Zone = 17
-op_code O.Columns = 18
-op_code O.Rows = 19
-op_code O.Report = 20
-op_code O.Return = 21
 
 -- a place that fits an int
 abbrev pub Placed : ℕ → Type 0
@@ -46,15 +21,19 @@ abbrev pub Emits : Held Instruction → (code operand place : ℕ) → Held Inst
 Emits before c a p after =
     (C : List Instruction) → before ≡ coded C → length C < code_limit → Placed a → Placed p → after ≡ coded (C ++ (ins c (pos a) p ∷ []))
 
+-- one more instruction, with any operand
+abbrev pub Appends : Held Instruction → (code : ℕ) → ℤ → (place : ℕ) → Held Instruction → Type 0
+Appends before c v p after =
+    (C : List Instruction) → before ≡ coded C → length C < code_limit → Placed p → after ≡ coded (C ++ (ins c v p ∷ []))
+
 -- one more instruction that pushes a constant
 abbrev pub Pushes : Held Instruction → ℤ → ℕ → Held Instruction → Type 0
-Pushes before v p after =
-    (C : List Instruction) → before ≡ coded C → length C < code_limit → Placed p → after ≡ coded (C ++ (ins 0 v p ∷ []))
+Pushes before v p after = Appends before 0 v p after
 
 -- the numbers of one instruction, and perhaps of a second
 abbrev pub codes_by : Op → Option Op → List ℕ
-codes_by first None = op_code first ∷ []
-codes_by first (Some second) = op_code first ∷ op_code second ∷ []
+codes_by first None = code_of first ∷ []
+codes_by first (Some second) = code_of first ∷ code_of second ∷ []
 
 -- an instruction with another target
 abbrev pub aim : ℕ → Instruction → Instruction

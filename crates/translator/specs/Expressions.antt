@@ -1,5 +1,5 @@
 -- What the translation of an expression comes to.
-use Rattle.std.specs.Prelude.{◌≡◌, ℕ, ◌≤◌, Bool, true, false, not, List, [], ◌∷◌, ◌++◌, length, drop, Some, None, Ok, Err, Option, Result}
+use Rattle.std.specs.Prelude.{◌≡◌, ℕ, ◌≤◌, Bool, true, false, not, List, [], ◌∷◌, ◌++◌, length, drop, is_none, Some, None, Ok, Err, Option, Result}
 use Rattle.refusal.specs.Told.{accepted, refused, number_of}
 use Rattle.refusal.specs.declared.reason.Refusal.{Refusal}
 use Rattle.stacks.specs.Held.{Held}
@@ -25,7 +25,6 @@ use Rattle.translator.specs.declared.name.Name.{Name}
 use Rattle.translator.specs.declared.name.Callee.{Callee}
 use Rattle.translator.specs.declared.name.Callee.TheVariants as C
 use Rattle.translator.specs.declared.typed.Typed.{Typed}
-use Rattle.translator.specs.declared.typed.Whole.{Whole}
 use Rattle.translator.specs.declared.typed.Called.{Called}
 use Rattle.translator.specs.declared.typed.Listed.{Listed}
 use Rattle.translator.specs.declared.typed.Given.{Given}
@@ -55,10 +54,14 @@ ExprDone s ts Γ D e rest code (Ok r) =
     (type_of e Γ ≡ accepted r.kind) × (drop r.end (lexemes s ts) ≡ rest) × (D ≡ coded (code ++ expr_code e Γ (length code)))
 ExprDone s ts Γ D e rest code (Err f) = type_of e Γ ≡ refused (number_of f.reason) f.place
 
+-- where the expression e stands there, it is translated
+abbrev pub TranslatesAs : ℕ → List ℕ → List Token → ℕ → Held Name → Held Instruction → Held Instruction → Expr → Result Typed Refusal → Type 0
+TranslatesAs n s ts at N C D e r =
+    (h : ExprAt n s ts at (scope_of s N.held) C e) → ExprDone s ts (scope_of s N.held) D e h.rest h.code r
+
 -- whatever expression stands there is translated
 abbrev pub Translates : ℕ → List ℕ → List Token → ℕ → Held Name → Held Instruction → Held Instruction → Result Typed Refusal → Type 0
-Translates n s ts at N C D r =
-    (e : Expr) (h : ExprAt n s ts at (scope_of s N.held) C e) → ExprDone s ts (scope_of s N.held) D e h.rest h.code r
+Translates n s ts at N C D r = (e : Expr) → TranslatesAs n s ts at N C D e r
 
 -- The left operand a of the operator o is translated, and the operator's mark, at p, and the right operand b follow.
 pub record JoinAt (n : ℕ) (s : List ℕ) (ts : List Token) (left : Typed) (Γ : Scope) (C : Held Instruction) (o : Operator) (a : Expr) (p : ℕ) (b : Expr) : Type 0 where
@@ -185,15 +188,15 @@ abbrev pub Continues : ℕ → List ℕ → List Token → Typed → Held Name �
 Continues n s ts left N C D r =
     (e : Expr) (h : TailsAt n s ts left (scope_of s N.held) C e) → ExprDone s ts (scope_of s N.held) D e h.rest h.code r
 
--- What was made of a whole expression statement before a semicolon: whether it leaves a value, the place of the semicolon, and
--- its code; or its first fault.
-abbrev pub WholeDone : List ℕ → List Token → Scope → Held Instruction → Expr → List Lexeme → List Instruction → Result Whole Refusal → Type 0
+-- What was made of a whole expression statement before a semicolon: what it gives, the place of the semicolon, and its
+-- code; or its first fault.
+abbrev pub WholeDone : List ℕ → List Token → Scope → Held Instruction → Expr → List Lexeme → List Instruction → Result Called Refusal → Type 0
 WholeDone s ts Γ D e rest code (Ok r) =
-    (check_whole e Γ ≡ accepted tt) × (drop r.end (lexemes s ts) ≡ rest) × (D ≡ coded (code ++ expr_code e Γ (length code))) × (leaves_nothing e Γ ≡ not r.leaves)
+    (check_whole e Γ ≡ accepted tt) × (drop r.end (lexemes s ts) ≡ rest) × (D ≡ coded (code ++ expr_code e Γ (length code))) × (leaves_nothing e Γ ≡ is_none r.gives)
 WholeDone s ts Γ D e rest code (Err f) = check_whole e Γ ≡ refused (number_of f.reason) f.place
 
 -- whatever expression stands there before a semicolon is translated as a statement
-abbrev pub TranslatesWhole : List ℕ → List Token → ℕ → Held Name → Held Instruction → Held Instruction → Result Whole Refusal → Type 0
+abbrev pub TranslatesWhole : List ℕ → List Token → ℕ → Held Name → Held Instruction → Held Instruction → Result Called Refusal → Type 0
 TranslatesWhole s ts at N C D r =
     (e : Expr) (p : ℕ) (ls : List Lexeme) (h : ExprAt 6 s ts at (scope_of s N.held) C e) → h.rest ≡ sign K.Semicolon p ∷ ls
     → WholeDone s ts (scope_of s N.held) D e h.rest h.code r

@@ -23,8 +23,8 @@ OperatorOf k r = (o : Operator) → k ≡ binary_kind o → r ≡ o
 
 -- the operator of a looseness that stands at a place, if one does
 abbrev pub OperatorAt : List Token → ℕ → ℕ → Option Operator → Type 0
-OperatorAt ts at n (Some r) = (looseness_of (seen ts at) ≡ n) × ((o : Operator) → seen ts at ≡ Some (binary_kind o) → r ≡ o)
-OperatorAt ts at n None = looseness_of (seen ts at) ≡ n → ⊥
+OperatorAt ts at n (Some r) = (looseness_of (seen ts at) ≡ Some n) × ((o : Operator) → seen ts at ≡ Some (binary_kind o) → r ≡ o)
+OperatorAt ts at n None = looseness_of (seen ts at) ≡ Some n → ⊥
 
 -- the operator of the modifier that a kind of token is; none of an assignment
 pub record ModifierOf (k : Kind) (r : Option Operator) : Type 0 where

@@ -73,6 +73,15 @@ abbrev pub Finds : List ℕ → List Name → List ℕ → Option (ℕ × Entry)
 Finds s ns x None = lookup x (scope_of s ns) ≡ absent
 Finds s ns x (Some f) = Says f.1 x (scope_of s ns) (cells (scope_of s (take f.0 ns)))
 
+-- the newest definition of a name, at a place, or the fault there where there is none
+abbrev pub FoundIs : List ℕ → List Name → List ℕ → ℕ → Result (ℕ × Entry) Refusal → Type 0
+FoundIs s ns x p (Ok f) = Says f.1 x (scope_of s ns) (cells (scope_of s (take f.0 ns)))
+FoundIs s ns x p (Err f) = (lookup x (scope_of s ns) ≡ absent) × (number_of f.reason ≡ 13) × (f.place ≡ p)
+
+-- the same of the name at a place of the tokens
+abbrev pub FoundAt : List ℕ → List Token → ℕ → List Name → Result (ℕ × Entry) Refusal → Type 0
+FoundAt s ts at ns r = (x : Ident) (ls : List Lexeme) → drop at (lexemes s ts) ≡ ident x ∷ ls → FoundIs s ns x.bytes x.place r
+
 -- a variable as code uses it: its type and its cell
 abbrev pub VariableIs : Scope → List ℕ → ℕ → Result Used Refusal → Type 0
 VariableIs Γ x p (Ok v) = (lookup x Γ ≡ a_variable v.kind) × (v.cell ≡ cell_of x Γ)

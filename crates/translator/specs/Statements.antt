@@ -2,7 +2,7 @@
 use Rattle.std.specs.Prelude.{◌≡◌, ℕ, ◌+◌, ◌<◌, ◌≤◌, Bool, true, List, [], ◌∷◌, ◌++◌, length, take, drop, pos, Ok, Err, Result}
 use Rattle.refusal.specs.Told.{accepted, refused, number_of}
 use Rattle.refusal.specs.declared.reason.Refusal.{Refusal}
-use Rattle.stacks.specs.Held.{Held, holding, cut}
+use Rattle.stacks.specs.Held.{Held, holding, cut, seen}
 use Rattle.lexer.specs.Lexeme.{Lexeme}
 use Rattle.lexer.specs.Reading.{lexemes}
 use Rattle.lexer.specs.declared.kind.Kind.TheVariants as K
@@ -25,6 +25,7 @@ use Rattle.translator.specs.Names.{scope_of}
 use Rattle.translator.specs.Expressions.{AllPlaced, ExprAt}
 use Rattle.translator.specs.declared.name.Name.{Name}
 use Rattle.translator.specs.declared.pending.Jump.{Jump}
+use Rattle.translator.specs.declared.work.Work.{Work as Stacks}
 
 -- the jumps stand from lo on, before hi
 unfoldable pub Between : List Jump → (lo hi : ℕ) → Type 0
@@ -45,6 +46,10 @@ pub record Work : Type 0 where
 
 abbrev pub work : Held Name → Held Jump → Held Instruction → Work
 work n j c = record { names = n; jumps = j; code = c }
+
+-- what the stacks of a translation hold
+abbrev pub held : Stacks → Work
+held w = work (seen w.names) (seen w.jumps) (seen w.code)
 
 -- Lexemes stand at a place of the tokens, and the stacks have room: for as many names and jumps as there are tokens left,
 -- and for code up to an end.

@@ -3,23 +3,20 @@ ghost use Rattle.std.specs.Prelude.{◌≡◌};
 ghost use Rattle.meaning.specs.Scopes.{a_function};
 ghost use Rattle.meaning.specs.Types.{signature};
 ghost use Rattle.layout.proofs.Compiled.{call_code};
-ghost use Rattle.translator.specs.Code.{op_code};
+ghost use Rattle.machine.specs.Codes.{code_of};
 ghost use Rattle.translator.specs.Names.{callee_of, return_of};
 ghost use Rattle.translator.specs.Expressions.{takes_int, takes_given};
 
 use crate::name::Callee;
-use crate::op::Op;
 use crate::typed::Given;
+use machine::Op;
 use meaning::Scalar;
 
 // Whether a function takes an int; it takes nothing otherwise.
 fn takes_int(callee: Callee) -> bool
     ensures { result ≡ takes_int callee }
 {
-    match callee {
-        Callee::Zone | Callee::Report => true,
-        Callee::Columns | Callee::Rows | Callee::Main => false,
-    }
+    matches!(callee, Callee::Zone | Callee::Report)
 }
 
 // Whether a function takes these arguments.
@@ -45,7 +42,7 @@ pub(crate) fn gives(callee: Callee) -> Option<Scalar>
 
 // The instruction of a call; main is not called.
 pub(crate) fn call_op(callee: Callee) -> Op
-    ensures { op_code result ≡ call_code (a_function (callee_of callee)) }
+    ensures { code_of result ≡ call_code (a_function (callee_of callee)) }
 {
     match callee {
         Callee::Zone => Op::Zone,

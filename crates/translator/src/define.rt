@@ -9,11 +9,9 @@ ghost use Rattle.meaning.specs.Written.{ident};
 ghost use Rattle.stacks.specs.Held.{seen};
 ghost use Rattle.translator.specs.Names.{callee_of, entry_as, fitting, return_of, types_of, Enters, Defines, ListedAs, Declares};
 
-use crate::look::token_at;
 use crate::name::{Callee, Entry, Name};
 use crate::scope::{cells_in, defined_here, is_named};
-use lexer::Token;
-use lookahead::part;
+use lookahead::Text;
 use meaning::Scalar;
 use refusal::{Reason, Refusal};
 use stacks::BoundedStack;
@@ -33,10 +31,10 @@ pub(crate) fn enter(names: &mut BoundedStack<Name>, entry: Entry)
 }
 
 // The name at `at` comes into force as a variable, untested: the level of a `for` has no other name.
-pub(crate) fn bind(tokens: &[Token], at: usize, kind: Scalar, names: &mut BoundedStack<Name>)
-    ensures { (s : List ℕ) (x : Ident) (ls : List Lexeme) → drop at (lexemes s tokens.now) ≡ ident x ∷ ls → Enters s (seen names.old) (variable x.bytes kind) (seen names.new) }
+pub(crate) fn bind(text: &Text, at: usize, kind: Scalar, names: &mut BoundedStack<Name>)
+    ensures { (s : List ℕ) (x : Ident) (ls : List Lexeme) → drop at (lexemes s text.now.tokens.now) ≡ ident x ∷ ls → Enters s (seen names.old) (variable x.bytes kind) (seen names.new) }
 {
-    let token = token_at(tokens, at);
+    let token = text.token_at(at);
     let _ = names.push(Name {
         entry: Entry::Variable(kind),
         place: token.place,
@@ -46,29 +44,22 @@ pub(crate) fn bind(tokens: &[Token], at: usize, kind: Scalar, names: &mut Bounde
 
 // The name at `at` comes into force as a variable, where it is new in its level and there is a cell for it.
 pub(crate) fn define(
-    source: &[u8],
-    tokens: &[Token],
+    text: &Text,
     at: usize,
     kind: Scalar,
     names: &mut BoundedStack<Name>,
 ) -> Result<(), Refusal>
-    ensures { Defines source.now tokens.now at kind (seen names.old) (seen names.new) result }
+    ensures { Defines text.now.source.now text.now.tokens.now at kind (seen names.old) (seen names.new) result }
 {
-    let token = token_at(tokens, at);
-    let text = part(source, token.place as usize, token.length as usize);
-    if defined_here(source, names, text) {
-        return Err(Refusal {
-            reason: Reason::DuplicateName,
-            place: token.place,
-        });
+    let place = text.token_at(at).place;
+    let word = text.bytes_at(at);
+    if defined_here(text.source, names, word) {
+        return Err(Reason::DuplicateName.at(place));
     }
     if cells_in(names, names.len()) >= CELLS {
-        return Err(Refusal {
-            reason: Reason::TooManyCells,
-            place: token.place,
-        });
+        return Err(Reason::TooManyCells.at(place));
     }
-    bind(tokens, at, kind, names);
+    bind(text, at, kind, names);
     Ok(())
 }
 
@@ -95,43 +86,28 @@ fn declares(callee: Callee, text: &[u8], gives: Option<Scalar>, takes: Option<Sc
 fn listed(text: &[u8], gives: Option<Scalar>, takes: Option<Scalar>) -> Option<Callee>
     ensures { ListedAs text.now gives takes result }
 {
-    if declares(Callee::Zone, text, gives, takes) {
-        Some(Callee::Zone)
-    } else if declares(Callee::Columns, text, gives, takes) {
-        Some(Callee::Columns)
-    } else if declares(Callee::Rows, text, gives, takes) {
-        Some(Callee::Rows)
-    } else if declares(Callee::Report, text, gives, takes) {
-        Some(Callee::Report)
-    } else {
-        None
-    }
+    [Callee::Zone, Callee::Columns, Callee::Rows, Callee::Report]
+        .into_iter()
+        .find(|callee| declares(*callee, text, gives, takes))
 }
 
 // The function that an extern declares comes into force; its name stands at `at`.
 pub(crate) fn declare(
-    source: &[u8],
-    tokens: &[Token],
+    text: &Text,
     at: usize,
     gives: Option<Scalar>,
     takes: Option<Scalar>,
     names: &mut BoundedStack<Name>,
 ) -> Result<(), Refusal>
-    ensures { Declares source.now tokens.now at gives takes (seen names.old) (seen names.new) result }
+    ensures { Declares text.now.source.now text.now.tokens.now at gives takes (seen names.old) (seen names.new) result }
 {
-    let token = token_at(tokens, at);
-    let text = part(source, token.place as usize, token.length as usize);
-    let Some(callee) = listed(text, gives, takes) else {
-        return Err(Refusal {
-            reason: Reason::UnlistedExtern,
-            place: token.place,
-        });
+    let place = text.token_at(at).place;
+    let word = text.bytes_at(at);
+    let Some(callee) = listed(word, gives, takes) else {
+        return Err(Reason::UnlistedExtern.at(place));
     };
-    if defined_here(source, names, text) {
-        return Err(Refusal {
-            reason: Reason::DuplicateName,
-            place: token.place,
-        });
+    if defined_here(text.source, names, word) {
+        return Err(Reason::DuplicateName.at(place));
     }
     enter(names, Entry::Function(callee));
     Ok(())

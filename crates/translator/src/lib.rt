@@ -14,6 +14,7 @@ mod script;
 mod statement;
 mod translation;
 mod typed;
+mod work;
 
 pub use counts::Counts;
 pub use layout::scripts_have_faithful_code;

@@ -4,36 +4,13 @@ ghost use Rattle.std.specs.List.{slice_get};
 ghost use Rattle.translator.specs.Look.{LiteralOf, OperatorOf, OperatorAt, ModifierOf, ScalarOf, call_seen};
 
 use lexer::{Kind, Token};
-use lookahead::{is_at, looseness_at};
+use lookahead::Text;
 use meaning::{Operator, Scalar};
 
-// The token at `at`, of which there is one.
-pub(crate) fn token_at(tokens: &[Token], at: usize) -> Token
-    ensures { at < length tokens.now → slice_get tokens.now at ≡ Some result }
-{
-    if at < tokens.len() {
-        tokens[at]
-    } else {
-        Token {
-            kind: Kind::Semicolon,
-            place: 0,
-            length: 0,
-            value: 0,
-        }
-    }
-}
-
-// The place in the list after the token at `at`.
-pub(crate) fn past(tokens: &[Token], at: usize) -> usize
-    ensures near { at ≤ result }
-    ensures within { at ≤ length tokens.now → result ≤ length tokens.now }
-    ensures next { at < length tokens.now → result ≡ at + 1 }
-{
-    if at < tokens.len() { at + 1 } else { at }
-}
+// The grammar has passed the tokens, so each has what is asked for: `TryFrom` would have an error that no call can meet.
 
 // A constant: its type, and its value as the machine holds it.
-#[derive(Clone, Copy)]
+#[derive(Clone, Copy, PartialEq, Eq, Debug)]
 pub(crate) struct Literal {
     pub(crate) kind: Scalar,
     pub(crate) value: i32,
@@ -84,12 +61,12 @@ fn operator_of(kind: Kind) -> Operator
 }
 
 // The operator of this looseness that stands at `at`, if one does.
-pub(crate) fn operator_at(tokens: &[Token], at: usize, looseness: u32) -> Option<Operator>
-    ensures same { OperatorAt tokens.now at looseness result }
-    ensures inside { is_some result ≡ true → 0 < looseness → at < length tokens.now }
+pub(crate) fn operator_at(text: &Text, at: usize, looseness: u32) -> Option<Operator>
+    ensures same { OperatorAt text.now.tokens.now at looseness result }
+    ensures inside { is_some result ≡ true → 0 < looseness → at < length text.now.tokens.now }
 {
-    if looseness_at(tokens, at) == looseness {
-        Some(operator_of(token_at(tokens, at).kind))
+    if text.looseness_at(at)? == looseness {
+        Some(operator_of(text.token_at(at).kind))
     } else {
         None
     }
@@ -123,12 +100,12 @@ pub(crate) fn scalar_of(kind: Kind) -> Scalar
 }
 
 // Whether a call stands at `at`: a name and an opening bracket.
-pub(crate) fn calls_at(tokens: &[Token], at: usize) -> bool
-    ensures same { result ≡ call_seen tokens.now at }
-    ensures inside { result ≡ true → at < length tokens.now }
+pub(crate) fn calls_at(text: &Text, at: usize) -> bool
+    ensures same { result ≡ call_seen text.now.tokens.now at }
+    ensures inside { result ≡ true → at < length text.now.tokens.now }
 {
-    if is_at(tokens, at, Kind::Name) {
-        is_at(tokens, at + 1, Kind::OpenParen)
+    if text.is_at(at, Kind::Name) {
+        text.is_at(at + 1, Kind::OpenParen)
     } else {
         false
     }

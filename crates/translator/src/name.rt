@@ -2,7 +2,7 @@
 use meaning::Scalar;
 
 // A function that a script can name.
-#[derive(Clone, Copy)]
+#[derive(Clone, Copy, PartialEq, Eq, Debug)]
 pub enum Callee {
     Zone,
     Columns,
@@ -12,9 +12,10 @@ pub enum Callee {
 }
 
 // What a record stands for.
-#[derive(Clone, Copy)]
+#[derive(Clone, Copy, PartialEq, Eq, Debug, Default)]
 pub enum Entry {
     // A level begins here: what is newer belongs to it.
+    #[default]
     Level,
     Variable(Scalar),
     // The stop of an open `for`, which has a cell and no name.
@@ -23,7 +24,7 @@ pub enum Entry {
 }
 
 // A record; the name of a variable is so many bytes of the source from the place on.
-#[derive(Clone, Copy)]
+#[derive(Clone, Copy, PartialEq, Eq, Debug, Default)]
 pub struct Name {
     pub(crate) entry: Entry,
     pub(crate) place: u32,
@@ -31,7 +32,7 @@ pub struct Name {
 }
 
 // A variable as code uses it.
-#[derive(Clone, Copy)]
+#[derive(Clone, Copy, PartialEq, Eq, Debug)]
 pub(crate) struct Variable {
     pub(crate) kind: Scalar,
     pub(crate) cell: usize,

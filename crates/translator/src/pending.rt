@@ -1,11 +1,13 @@
 // Forward jumps whose target is not known yet.
-ghost use Rattle.std.specs.Prelude.{◌≡◌, ◌<◌, Bool, List, [], ◌∷◌, ◌++◌, length};
+ghost use Rattle.std.specs.Prelude.{◌≡◌, ◌<◌, Bool, List, [], ◌∷◌, ◌++◌, length, MatchResult, Ok, Err};
 ghost use Rattle.machine.specs.declared.instruction.Instruction.{Instruction as Record};
+ghost use Rattle.machine.specs.Codes.{code_of};
 ghost use Rattle.stacks.specs.Held.{seen, holding};
-ghost use Rattle.translator.specs.Code.{op_code, Emits, Lands, LandsAll};
+ghost use Rattle.translator.specs.Code.{Emits, Lands, LandsAll};
 
-use crate::op::{Op, emit, int};
-use machine::Instruction;
+use crate::op::{emit, int};
+use machine::{Instruction, Op};
+use refusal::Refusal;
 use stacks::BoundedStack;
 
 // A jump without its target, by its position. It cannot be let go: it is landed once, kept for the end of its loop, or given
@@ -14,8 +16,9 @@ pub(crate) struct PendingJump {
     at: usize,
 }
 
-// A `break` or `continue` that waits for the end of its loop.
-#[derive(Clone, Copy)]
+// A `break` or `continue` that waits for the end of its loop. Both have a position and nothing else, so which it is stands
+// beside it.
+#[derive(Clone, Copy, PartialEq, Eq, Debug, Default)]
 pub(crate) struct Jump {
     pub(crate) at: usize,
     // A `break`, which leaves the loop.
@@ -26,7 +29,7 @@ impl PendingJump {
     // Emits a jump.
     pub(crate) fn emit(code: &mut BoundedStack<Instruction>, op: Op, place: u32) -> PendingJump
         ensures at { result.at ≡ length (seen code.old).held }
-        ensures code { Emits (seen code.old) (op_code op) 0 place (seen code.new) }
+        ensures code { Emits (seen code.old) (code_of op) 0 place (seen code.new) }
     {
         let at = code.len();
         emit(code, op, 0, place);
@@ -44,8 +47,21 @@ impl PendingJump {
         }
     }
 
+    // The jump beside what was read after it; given up where that was refused.
+    pub(crate) fn after<T>(self, read: Result<T, Refusal>) -> Result<(PendingJump, T), Refusal>
+        ensures { MatchResult result (λ p. (p.0 ≡ self) × (read ≡ Ok p.1)) (λ f. read ≡ Err f) }
+    {
+        match read {
+            Ok(value) => Ok((self, value)),
+            Err(refusal) => {
+                self.give_up();
+                Err(refusal)
+            }
+        }
+    }
+
     // Leaves the jump without a target.
-    pub(crate) fn give_up(self) {
+    fn give_up(self) {
         let PendingJump { at: _ } = self;
     }
 

@@ -2,12 +2,10 @@
 ghost use Rattle.std.specs.Prelude.{◌≡◌, ℕ, List, take};
 ghost use Rattle.meaning.specs.Scopes.{callee_name, cells, defined_here, same_name};
 ghost use Rattle.stacks.specs.Held.{seen};
-ghost use Rattle.translator.specs.Names.{callee_of, callable_of, defining, entry_of, scope_of, Finds, VariableAt, CalleeAt};
+ghost use Rattle.translator.specs.Names.{callee_of, callable_of, defining, entry_of, scope_of, Finds, FoundAt, VariableAt, CalleeAt};
 
-use crate::look::token_at;
 use crate::name::{Callee, Entry, Name, Variable};
-use lexer::Token;
-use lookahead::part;
+use lookahead::{Text, part};
 use refusal::{Reason, Refusal};
 use stacks::BoundedStack;
 
@@ -24,54 +22,45 @@ fn callee_name(callee: Callee) -> &'static [u8]
     }
 }
 
-// Whether the text is the function's name.
-pub(crate) fn is_named(callee: Callee, text: &[u8]) -> bool
-    ensures { result ≡ same_name text.now (callee_name (callee_of callee)) }
+// Whether the word is the function's name.
+pub(crate) fn is_named(callee: Callee, word: &[u8]) -> bool
+    ensures { result ≡ same_name word.now (callee_name (callee_of callee)) }
 {
-    text == callee_name(callee)
+    word == callee_name(callee)
 }
 
 // Whether a record defines the name.
-fn defines(source: &[u8], name: Name, text: &[u8]) -> bool
-    ensures { result ≡ defining text.now (entry_of source.now name) }
+fn defines(source: &[u8], name: Name, word: &[u8]) -> bool
+    ensures { result ≡ defining word.now (entry_of source.now name) }
 {
     match name.entry {
-        Entry::Variable(_) => text == part(source, name.place as usize, name.length as usize),
-        Entry::Function(callee) => is_named(callee, text),
+        Entry::Variable(_) => word == part(source, name.place as usize, name.length as usize),
+        Entry::Function(callee) => is_named(callee, word),
         Entry::Level | Entry::Stop => false,
     }
 }
 
 // The newest record that defines the name, if one does: its place, and what it stands for.
-fn find(source: &[u8], names: &BoundedStack<Name>, text: &[u8]) -> Option<(usize, Entry)>
-    ensures { Finds source.now (seen names.now).held text.now result }
+fn find(source: &[u8], names: &BoundedStack<Name>, word: &[u8]) -> Option<(usize, Entry)>
+    ensures { Finds source.now (seen names.now).held word.now result }
 {
-    let mut i = names.len();
-    'newest: while i > 0 {
-        i -= 1;
-        if let Some(name) = names.get(i) {
-            if defines(source, name, text) {
-                return Some((i, name.entry));
-            }
-        }
-    }
-    None
+    let records = names.as_slice();
+    let newest = records
+        .iter()
+        .rposition(|name| defines(source, *name, word))?;
+    Some((newest, records[newest].entry))
 }
 
 // Whether the newest level defines the name.
-pub(crate) fn defined_here(source: &[u8], names: &BoundedStack<Name>, text: &[u8]) -> bool
-    ensures { result ≡ defined_here text.now (scope_of source.now (seen names.now).held) }
+pub(crate) fn defined_here(source: &[u8], names: &BoundedStack<Name>, word: &[u8]) -> bool
+    ensures { result ≡ defined_here word.now (scope_of source.now (seen names.now).held) }
 {
-    let mut i = names.len();
-    'newest: while i > 0 {
-        i -= 1;
-        if let Some(name) = names.get(i) {
-            if let Entry::Level = name.entry {
-                return false;
-            }
-            if defines(source, name, text) {
-                return true;
-            }
+    for name in names.as_slice().iter().rev() {
+        if name.entry == Entry::Level {
+            return false;
+        }
+        if defines(source, *name, word) {
+            return true;
         }
     }
     false
@@ -81,43 +70,37 @@ pub(crate) fn defined_here(source: &[u8], names: &BoundedStack<Name>, text: &[u8
 pub(crate) fn cells_in(names: &BoundedStack<Name>, n: usize) -> usize
     ensures { (s : List ℕ) → result ≡ cells (scope_of s (take n (seen names.now).held)) }
 {
-    let mut count = 0;
-    'records: for i in 0..n {
-        if let Some(name) = names.get(i) {
-            if let Entry::Variable(_) | Entry::Stop = name.entry {
-                count += 1;
-            }
-        }
-    }
-    count
+    names
+        .as_slice()
+        .iter()
+        .take(n)
+        .filter(|name| matches!(name.entry, Entry::Variable(_) | Entry::Stop))
+        .count()
+}
+
+// The newest record that defines the name at `at`: its place, and what it stands for.
+fn found_at(text: &Text, at: usize, names: &BoundedStack<Name>) -> Result<(usize, Entry), Refusal>
+    ensures { FoundAt text.now.source.now text.now.tokens.now at (seen names.now).held result }
+{
+    let place = text.token_at(at).place;
+    find(text.source, names, text.bytes_at(at)).ok_or(Reason::AbsentName.at(place))
 }
 
 // The variable that the name at `at` means.
 pub(crate) fn variable_at(
-    source: &[u8],
-    tokens: &[Token],
+    text: &Text,
     at: usize,
     names: &BoundedStack<Name>,
 ) -> Result<Variable, Refusal>
-    ensures { VariableAt source.now tokens.now at (seen names.now).held result }
+    ensures { VariableAt text.now.source.now text.now.tokens.now at (seen names.now).held result }
 {
-    let token = token_at(tokens, at);
-    let text = part(source, token.place as usize, token.length as usize);
-    let Some((i, entry)) = find(source, names, text) else {
-        return Err(Refusal {
-            reason: Reason::AbsentName,
-            place: token.place,
-        });
-    };
+    let (i, entry) = found_at(text, at, names)?;
     match entry {
         Entry::Variable(kind) => Ok(Variable {
             kind,
             cell: cells_in(names, i),
         }),
-        _ => Err(Refusal {
-            reason: Reason::MisusedName,
-            place: token.place,
-        }),
+        _ => Err(Reason::MisusedName.at(text.token_at(at).place)),
     }
 }
 
@@ -135,26 +118,12 @@ fn callable(entry: Entry) -> Option<Callee>
 
 // The function that the called name at `at` means.
 pub(crate) fn callee_at(
-    source: &[u8],
-    tokens: &[Token],
+    text: &Text,
     at: usize,
     names: &BoundedStack<Name>,
 ) -> Result<Callee, Refusal>
-    ensures { CalleeAt source.now tokens.now at (seen names.now).held result }
+    ensures { CalleeAt text.now.source.now text.now.tokens.now at (seen names.now).held result }
 {
-    let token = token_at(tokens, at);
-    let text = part(source, token.place as usize, token.length as usize);
-    let Some((_, entry)) = find(source, names, text) else {
-        return Err(Refusal {
-            reason: Reason::AbsentName,
-            place: token.place,
-        });
-    };
-    match callable(entry) {
-        Some(callee) => Ok(callee),
-        None => Err(Refusal {
-            reason: Reason::MisusedName,
-            place: token.place,
-        }),
-    }
+    let (_, entry) = found_at(text, at, names)?;
+    callable(entry).ok_or(Reason::MisusedName.at(text.token_at(at).place))
 }

@@ -1,20 +1,21 @@
 // Statements: names, types and code.
-ghost use Rattle.std.specs.Prelude.{◌≡◌, ◌+◌, ◌<◌, ◌≤◌, length, IfOk};
-ghost use Rattle.meaning.specs.Types.{same_type};
+// What reads has a `within`: places are plain numbers, so how its end lies to its start is a fact of the call, not of a type.
+ghost use Rattle.std.specs.Prelude.{◌+◌, ◌<◌, ◌≤◌, length, IfOk};
 ghost use Rattle.stacks.specs.Held.{seen};
-ghost use Rattle.translator.specs.Statements.{work, TranslatesNeeded, TranslatesCondition, Closes, Tests, Advances, TranslatesStmt, TranslatesStmts, TranslatesBlock, TranslatesBody, TranslatesDefinition, TranslatesAssignment, TranslatesModification, TranslatesEvaluation, TranslatesConditional, TranslatesElse, TranslatesWhile, TranslatesDo, TranslatesBounds, TranslatesFor, TranslatesCount, TranslatesJump, TranslatesReturn};
+ghost use Rattle.translator.specs.Statements.{held, TranslatesNeeded, TranslatesCondition, Closes, Tests, Advances, TranslatesStmt, TranslatesStmts, TranslatesBlock, TranslatesBody, TranslatesDefinition, TranslatesAssignment, TranslatesModification, TranslatesEvaluation, TranslatesConditional, TranslatesElse, TranslatesWhile, TranslatesDo, TranslatesBounds, TranslatesFor, TranslatesCount, TranslatesJump, TranslatesReturn};
 
 use crate::define::{bind, define, enter};
 use crate::expression::{LOOSEST, expression, joined, whole};
-use crate::look::{modifier_of, past, scalar_of, token_at};
+use crate::look::{modifier_of, scalar_of};
 use crate::name::{Entry, Name};
-use crate::op::{Op, emit};
+use crate::op::emit;
 use crate::pending::{Jump, PendingJump, land_all};
 use crate::scope::{cells_in, variable_at};
 use crate::typed::Typed;
-use lexer::{Kind, Token};
-use lookahead::{Lead, assigns_at, is_at, lead_at};
-use machine::Instruction;
+use crate::work::Work;
+use lexer::Kind;
+use lookahead::{Lead, Text};
+use machine::{Instruction, Op};
 use meaning::{Operator, Scalar};
 use refusal::{Reason, Refusal};
 use stacks::BoundedStack;
@@ -22,199 +23,164 @@ use stacks::BoundedStack;
 // The most cells that a `for` finds in use: it takes two more, of 64.
 const CELLS_BEFORE_FOR: usize = 62;
 
-// Whether two types are equal.
-pub(crate) fn same_type(left: Scalar, right: Scalar) -> bool
-    ensures { result ≡ same_type left right }
-{
-    left as u8 == right as u8
-}
-
 // An expression of a type, else a fault at `place`.
 fn needed(
-    source: &[u8],
-    tokens: &[Token],
+    text: &Text,
     at: usize,
     names: &BoundedStack<Name>,
     code: &mut BoundedStack<Instruction>,
     kind: Scalar,
     place: u32,
 ) -> Result<usize, Refusal>
-    ensures within { IfOk result (λ q. (at < q) × (q ≤ length tokens.now)) }
-    ensures same { TranslatesNeeded source.now tokens.now at kind place (seen names.now) (seen code.old) (seen code.new) result }
+    ensures within { IfOk result (λ q. (at < q) × (q ≤ length text.now.tokens.now)) }
+    ensures same { TranslatesNeeded text.now.source.now text.now.tokens.now at kind place (seen names.now) (seen code.old) (seen code.new) result }
 {
-    let value = expression(source, tokens, at, names, code)?;
-    if same_type(value.kind, kind) {
+    let value = expression(text, at, names, code)?;
+    if value.kind == kind {
         Ok(value.end)
     } else {
-        Err(Refusal {
-            reason: Reason::TypeMismatch,
-            place,
-        })
+        Err(Reason::TypeMismatch.at(place))
     }
 }
 
 // The condition of a statement, in brackets.
 fn condition(
-    source: &[u8],
-    tokens: &[Token],
+    text: &Text,
     at: usize,
     names: &BoundedStack<Name>,
     code: &mut BoundedStack<Instruction>,
     place: u32,
 ) -> Result<usize, Refusal>
-    ensures within { IfOk result (λ q. (at < q) × (q ≤ length tokens.now)) }
-    ensures same { TranslatesCondition source.now tokens.now at place (seen names.now) (seen code.old) (seen code.new) result }
+    ensures within { IfOk result (λ q. (at < q) × (q ≤ length text.now.tokens.now)) }
+    ensures same { TranslatesCondition text.now.source.now text.now.tokens.now at place (seen names.now) (seen code.old) (seen code.new) result }
 {
-    let end = needed(
-        source,
-        tokens,
-        past(tokens, at),
-        names,
-        code,
-        Scalar::Bool,
-        place,
-    )?;
-    Ok(past(tokens, end))
+    let end = needed(text, text.past(at), names, code, Scalar::Bool, place)?;
+    Ok(text.past(end))
 }
 
 // TYPE NAME = e ;
 fn definition(
-    source: &[u8],
-    tokens: &[Token],
+    text: &Text,
     at: usize,
     names: &mut BoundedStack<Name>,
     code: &mut BoundedStack<Instruction>,
 ) -> Result<usize, Refusal>
-    requires { at < length tokens.now }
-    ensures within { IfOk result (λ q. (at < q) × (q ≤ length tokens.now)) }
-    ensures same { TranslatesDefinition source.now tokens.now at (seen names.old) (seen code.old) (seen names.new) (seen code.new) result }
+    requires { at < length text.now.tokens.now }
+    ensures within { IfOk result (λ q. (at < q) × (q ≤ length text.now.tokens.now)) }
+    ensures same { TranslatesDefinition text.now.source.now text.now.tokens.now at (seen names.old) (seen code.old) (seen names.new) (seen code.new) result }
 {
-    let kind = scalar_of(token_at(tokens, at).kind);
-    let place = token_at(tokens, at + 1).place;
-    let value = past(tokens, past(tokens, at + 1));
-    let end = needed(source, tokens, value, names, code, kind, place)?;
+    let kind = scalar_of(text.token_at(at).kind);
+    let place = text.token_at(at + 1).place;
+    let value = text.past(text.past(at + 1));
+    let end = needed(text, value, names, code, kind, place)?;
     let cell = cells_in(names, names.len());
-    define(source, tokens, at + 1, kind, names)?;
+    define(text, at + 1, kind, names)?;
     emit(code, Op::Store, cell, place);
-    Ok(past(tokens, end))
+    Ok(text.past(end))
 }
 
 // NAME = e ;
 fn assignment(
-    source: &[u8],
-    tokens: &[Token],
+    text: &Text,
     at: usize,
     names: &BoundedStack<Name>,
     code: &mut BoundedStack<Instruction>,
 ) -> Result<usize, Refusal>
-    requires { at < length tokens.now }
-    ensures within { IfOk result (λ q. (at < q) × (q ≤ length tokens.now)) }
-    ensures same { TranslatesAssignment source.now tokens.now at (seen names.now) (seen code.old) (seen code.new) result }
+    requires { at < length text.now.tokens.now }
+    ensures within { IfOk result (λ q. (at < q) × (q ≤ length text.now.tokens.now)) }
+    ensures same { TranslatesAssignment text.now.source.now text.now.tokens.now at (seen names.now) (seen code.old) (seen code.new) result }
 {
-    let variable = variable_at(source, tokens, at, names)?;
-    let place = token_at(tokens, at + 1).place;
-    let value = past(tokens, at + 1);
-    let end = needed(source, tokens, value, names, code, variable.kind, place)?;
+    let variable = variable_at(text, at, names)?;
+    let place = text.token_at(at + 1).place;
+    let value = text.past(at + 1);
+    let end = needed(text, value, names, code, variable.kind, place)?;
     emit(code, Op::Store, variable.cell, place);
-    Ok(past(tokens, end))
+    Ok(text.past(end))
 }
 
 // NAME op= e ; which is NAME = NAME op e ;
 fn modification(
-    source: &[u8],
-    tokens: &[Token],
+    text: &Text,
     at: usize,
     operator: Operator,
     names: &BoundedStack<Name>,
     code: &mut BoundedStack<Instruction>,
 ) -> Result<usize, Refusal>
-    requires { at + 1 < length tokens.now }
-    ensures within { IfOk result (λ q. (at < q) × (q ≤ length tokens.now)) }
-    ensures same { TranslatesModification source.now tokens.now at operator (seen names.now) (seen code.old) (seen code.new) result }
+    requires { at + 1 < length text.now.tokens.now }
+    ensures within { IfOk result (λ q. (at < q) × (q ≤ length text.now.tokens.now)) }
+    ensures same { TranslatesModification text.now.source.now text.now.tokens.now at operator (seen names.now) (seen code.old) (seen code.new) result }
 {
-    let variable = variable_at(source, tokens, at, names)?;
-    emit(code, Op::Load, variable.cell, token_at(tokens, at).place);
+    let variable = variable_at(text, at, names)?;
+    emit(code, Op::Load, variable.cell, text.token_at(at).place);
     let left = Typed {
         kind: variable.kind,
         end: at + 1,
     };
-    let value = joined(source, tokens, left, operator, names, code, LOOSEST)?;
-    emit(
-        code,
-        Op::Store,
-        variable.cell,
-        token_at(tokens, at + 1).place,
-    );
-    Ok(past(tokens, value.end))
+    let value = joined(text, left, operator, names, code, LOOSEST)?;
+    emit(code, Op::Store, variable.cell, text.token_at(at + 1).place);
+    Ok(text.past(value.end))
 }
 
 // e ;
 fn evaluation(
-    source: &[u8],
-    tokens: &[Token],
+    text: &Text,
     at: usize,
     names: &BoundedStack<Name>,
     code: &mut BoundedStack<Instruction>,
 ) -> Result<usize, Refusal>
-    ensures within { IfOk result (λ q. (at < q) × (q ≤ length tokens.now)) }
-    ensures same { TranslatesEvaluation source.now tokens.now at (seen names.now) (seen code.old) (seen code.new) result }
+    ensures within { IfOk result (λ q. (at < q) × (q ≤ length text.now.tokens.now)) }
+    ensures same { TranslatesEvaluation text.now.source.now text.now.tokens.now at (seen names.now) (seen code.old) (seen code.new) result }
 {
-    let done = whole(source, tokens, at, names, code)?;
-    if done.leaves {
-        emit(code, Op::Pop, 0, token_at(tokens, done.end).place);
+    let done = whole(text, at, names, code)?;
+    if done.gives.is_some() {
+        emit(code, Op::Pop, 0, text.token_at(done.end).place);
     }
-    Ok(past(tokens, done.end))
+    Ok(text.past(done.end))
 }
 
 // `break` or `continue`: the jump waits for the end of its loop.
 fn jump(
-    tokens: &[Token],
+    text: &Text,
     at: usize,
     jumps: &mut BoundedStack<Jump>,
     code: &mut BoundedStack<Instruction>,
     in_loop: bool,
 ) -> Result<usize, Refusal>
-    requires { at < length tokens.now }
-    ensures within { IfOk result (λ q. (at < q) × (q ≤ length tokens.now)) }
-    ensures same { TranslatesJump tokens.now at in_loop (seen jumps.old) (seen code.old) (seen jumps.new) (seen code.new) result }
+    requires { at < length text.now.tokens.now }
+    ensures within { IfOk result (λ q. (at < q) × (q ≤ length text.now.tokens.now)) }
+    ensures same { TranslatesJump text.now.tokens.now at in_loop (seen jumps.old) (seen code.old) (seen jumps.new) (seen code.new) result }
 {
-    let place = token_at(tokens, at).place;
+    let place = text.token_at(at).place;
     if !in_loop {
-        return Err(Refusal {
-            reason: Reason::OutsideLoop,
-            place,
-        });
+        return Err(Reason::OutsideLoop.at(place));
     }
-    let leaves = is_at(tokens, at, Kind::Break);
+    let leaves = text.is_at(at, Kind::Break);
     PendingJump::emit(code, Op::Jump, place).keep(jumps, leaves);
-    Ok(past(tokens, at + 1))
+    Ok(text.past(at + 1))
 }
 
 // `return`, which has to give an int.
 fn returning(
-    source: &[u8],
-    tokens: &[Token],
+    text: &Text,
     at: usize,
     names: &BoundedStack<Name>,
     code: &mut BoundedStack<Instruction>,
 ) -> Result<usize, Refusal>
-    requires { at < length tokens.now }
-    ensures within { IfOk result (λ q. (at < q) × (q ≤ length tokens.now)) }
-    ensures same { TranslatesReturn source.now tokens.now at (seen names.now) (seen code.old) (seen code.new) result }
+    requires { at < length text.now.tokens.now }
+    ensures within { IfOk result (λ q. (at < q) × (q ≤ length text.now.tokens.now)) }
+    ensures same { TranslatesReturn text.now.source.now text.now.tokens.now at (seen names.now) (seen code.old) (seen code.new) result }
 {
-    let place = token_at(tokens, at).place;
-    if is_at(tokens, at + 1, Kind::Semicolon) {
-        return Err(Refusal {
-            reason: Reason::TypeMismatch,
-            place,
-        });
+    let place = text.token_at(at).place;
+    if text.is_at(at + 1, Kind::Semicolon) {
+        return Err(Reason::TypeMismatch.at(place));
     }
-    let end = needed(source, tokens, at + 1, names, code, Scalar::Int, place)?;
+    let end = needed(text, at + 1, names, code, Scalar::Int, place)?;
     emit(code, Op::Return, 0, place);
-    Ok(past(tokens, end))
+    Ok(text.past(end))
 }
 
-// The end of a loop: back to its start. A `break` and the loop's own exit land behind it, a `continue` at `next`.
+// The end of a loop: back to its start. A `break` and the loop's own exit land behind it, a `continue` at `next`. It has the
+// two stacks that it changes, and not the names.
 fn close_loop(
     jumps: &mut BoundedStack<Jump>,
     mark: usize,
@@ -254,327 +220,253 @@ fn emit_advance(code: &mut BoundedStack<Instruction>, cell: usize, place: u32)
     emit(code, Op::Store, cell, place);
 }
 
-// A statement.
-#[cycle(block_body_conditional_counting_do_loop_for_loop_otherwise_statement_statements_while_loop)]
-fn statement(
-    source: &[u8],
-    tokens: &[Token],
-    at: usize,
-    names: &mut BoundedStack<Name>,
-    jumps: &mut BoundedStack<Jump>,
-    code: &mut BoundedStack<Instruction>,
-    in_loop: bool,
-) -> Result<usize, Refusal>
-    ensures within { IfOk result (λ q. (at < q) × (q ≤ length tokens.now)) }
-    ensures same { TranslatesStmt source.now tokens.now at in_loop (work (seen names.old) (seen jumps.old) (seen code.old)) (work (seen names.new) (seen jumps.new) (seen code.new)) result }
-{
-    match lead_at(tokens, at) {
-        Lead::Block => block(source, tokens, at, names, jumps, code, in_loop),
-        Lead::Definition => definition(source, tokens, at, names, code),
-        Lead::Name => {
-            if !assigns_at(tokens, at + 1) {
-                return evaluation(source, tokens, at, names, code);
-            }
-            match modifier_of(token_at(tokens, at + 1).kind) {
-                Some(operator) => modification(source, tokens, at, operator, names, code),
-                None => assignment(source, tokens, at, names, code),
-            }
-        }
-        Lead::If => conditional(source, tokens, at, names, jumps, code, in_loop),
-        Lead::While => while_loop(source, tokens, at, names, jumps, code),
-        Lead::Do => do_loop(source, tokens, at, names, jumps, code),
-        Lead::For => for_loop(source, tokens, at, names, jumps, code),
-        Lead::Jump => jump(tokens, at, jumps, code, in_loop),
-        Lead::Return => returning(source, tokens, at, names, code),
-        Lead::Expression => evaluation(source, tokens, at, names, code),
-        Lead::Nothing => Err(Refusal {
-            reason: Reason::UnexpectedToken,
-            place: token_at(tokens, at).place,
-        }),
-    }
-}
-
-// Statements up to the brace that closes them; answers its place in the tokens.
-#[cycle(block_body_conditional_counting_do_loop_for_loop_otherwise_statement_statements_while_loop)]
-pub(crate) fn statements(
-    source: &[u8],
-    tokens: &[Token],
-    at: usize,
-    names: &mut BoundedStack<Name>,
-    jumps: &mut BoundedStack<Jump>,
-    code: &mut BoundedStack<Instruction>,
-    in_loop: bool,
-) -> Result<usize, Refusal>
-    ensures within { IfOk result (λ q. (at ≤ q) × (q < length tokens.now)) }
-    ensures same { TranslatesStmts source.now tokens.now at in_loop (work (seen names.old) (seen jumps.old) (seen code.old)) (work (seen names.new) (seen jumps.new) (seen code.new)) result }
-{
-    let mut end = at;
-    'statements: while !is_at(tokens, end, Kind::CloseBrace) {
-        end = statement(source, tokens, end, names, jumps, code, in_loop)?;
-    }
-    Ok(end)
-}
-
-// Statements in braces, in a level of their own.
-#[cycle(block_body_conditional_counting_do_loop_for_loop_otherwise_statement_statements_while_loop)]
-fn block(
-    source: &[u8],
-    tokens: &[Token],
-    at: usize,
-    names: &mut BoundedStack<Name>,
-    jumps: &mut BoundedStack<Jump>,
-    code: &mut BoundedStack<Instruction>,
-    in_loop: bool,
-) -> Result<usize, Refusal>
-    requires { at < length tokens.now }
-    ensures within { IfOk result (λ q. (at < q) × (q ≤ length tokens.now)) }
-    ensures same { TranslatesBlock source.now tokens.now at in_loop (work (seen names.old) (seen jumps.old) (seen code.old)) (work (seen names.new) (seen jumps.new) (seen code.new)) result }
-{
-    let mark = names.len();
-    enter(names, Entry::Level);
-    let close = statements(source, tokens, at + 1, names, jumps, code, in_loop)?;
-    names.truncate(mark);
-    Ok(close + 1)
-}
-
-// The body of a statement, in a level of its own.
-#[cycle(block_body_conditional_counting_do_loop_for_loop_otherwise_statement_statements_while_loop)]
-fn body(
-    source: &[u8],
-    tokens: &[Token],
-    at: usize,
-    names: &mut BoundedStack<Name>,
-    jumps: &mut BoundedStack<Jump>,
-    code: &mut BoundedStack<Instruction>,
-    in_loop: bool,
-) -> Result<usize, Refusal>
-    ensures within { IfOk result (λ q. (at < q) × (q ≤ length tokens.now)) }
-    ensures same { TranslatesBody source.now tokens.now at in_loop (work (seen names.old) (seen jumps.old) (seen code.old)) (work (seen names.new) (seen jumps.new) (seen code.new)) result }
-{
-    let mark = names.len();
-    enter(names, Entry::Level);
-    let end = statement(source, tokens, at, names, jumps, code, in_loop)?;
-    names.truncate(mark);
-    Ok(end)
-}
-
-// if ( e ) s, perhaps with an `else`.
-#[cycle(block_body_conditional_counting_do_loop_for_loop_otherwise_statement_statements_while_loop)]
-fn conditional(
-    source: &[u8],
-    tokens: &[Token],
-    at: usize,
-    names: &mut BoundedStack<Name>,
-    jumps: &mut BoundedStack<Jump>,
-    code: &mut BoundedStack<Instruction>,
-    in_loop: bool,
-) -> Result<usize, Refusal>
-    requires { at < length tokens.now }
-    ensures within { IfOk result (λ q. (at < q) × (q ≤ length tokens.now)) }
-    ensures same { TranslatesConditional source.now tokens.now at in_loop (work (seen names.old) (seen jumps.old) (seen code.old)) (work (seen names.new) (seen jumps.new) (seen code.new)) result }
-{
-    let place = token_at(tokens, at).place;
-    let inside = condition(source, tokens, at + 1, names, code, place)?;
-    let skip = PendingJump::emit(code, Op::JumpIfZero, place);
-    match body(source, tokens, inside, names, jumps, code, in_loop) {
-        Ok(at) => {
-            if is_at(tokens, at, Kind::Else) {
-                otherwise(source, tokens, at, names, jumps, code, in_loop, skip, place)
-            } else {
-                let after = code.len();
-                skip.land(code, after);
-                Ok(at)
-            }
-        }
-        Err(refusal) => {
-            skip.give_up();
-            Err(refusal)
-        }
-    }
-}
-
-// `else` and its body: `skip` lands at the body, and what stood before it jumps over the body.
-#[cycle(block_body_conditional_counting_do_loop_for_loop_otherwise_statement_statements_while_loop)]
-fn otherwise(
-    source: &[u8],
-    tokens: &[Token],
-    at: usize,
-    names: &mut BoundedStack<Name>,
-    jumps: &mut BoundedStack<Jump>,
-    code: &mut BoundedStack<Instruction>,
-    in_loop: bool,
-    skip: PendingJump,
-    place: u32,
-) -> Result<usize, Refusal>
-    requires { at < length tokens.now }
-    ensures within { IfOk result (λ q. (at < q) × (q ≤ length tokens.now)) }
-    ensures same { TranslatesElse source.now tokens.now at in_loop skip.at place (work (seen names.old) (seen jumps.old) (seen code.old)) (work (seen names.new) (seen jumps.new) (seen code.new)) result }
-{
-    let done = PendingJump::emit(code, Op::Jump, place);
-    let start = code.len();
-    skip.land(code, start);
-    match body(source, tokens, at + 1, names, jumps, code, in_loop) {
-        Ok(end) => {
-            let after = code.len();
-            done.land(code, after);
-            Ok(end)
-        }
-        Err(refusal) => {
-            done.give_up();
-            Err(refusal)
-        }
-    }
-}
-
-// while ( e ) s
-#[cycle(block_body_conditional_counting_do_loop_for_loop_otherwise_statement_statements_while_loop)]
-fn while_loop(
-    source: &[u8],
-    tokens: &[Token],
-    at: usize,
-    names: &mut BoundedStack<Name>,
-    jumps: &mut BoundedStack<Jump>,
-    code: &mut BoundedStack<Instruction>,
-) -> Result<usize, Refusal>
-    requires { at < length tokens.now }
-    ensures within { IfOk result (λ q. (at < q) × (q ≤ length tokens.now)) }
-    ensures same { TranslatesWhile source.now tokens.now at (work (seen names.old) (seen jumps.old) (seen code.old)) (work (seen names.new) (seen jumps.new) (seen code.new)) result }
-{
-    let place = token_at(tokens, at).place;
-    let start = code.len();
-    let mark = jumps.len();
-    emit(code, Op::Tick, 0, place);
-    let inside = condition(source, tokens, at + 1, names, code, place)?;
-    let exit = PendingJump::emit(code, Op::JumpIfZero, place);
-    match body(source, tokens, inside, names, jumps, code, true) {
-        Ok(end) => {
-            close_loop(jumps, mark, code, exit, start, start, place);
-            Ok(end)
-        }
-        Err(refusal) => {
-            exit.give_up();
-            Err(refusal)
-        }
-    }
-}
-
-// do s while ( e ) ;
-#[cycle(block_body_conditional_counting_do_loop_for_loop_otherwise_statement_statements_while_loop)]
-fn do_loop(
-    source: &[u8],
-    tokens: &[Token],
-    at: usize,
-    names: &mut BoundedStack<Name>,
-    jumps: &mut BoundedStack<Jump>,
-    code: &mut BoundedStack<Instruction>,
-) -> Result<usize, Refusal>
-    requires { at < length tokens.now }
-    ensures within { IfOk result (λ q. (at < q) × (q ≤ length tokens.now)) }
-    ensures same { TranslatesDo source.now tokens.now at (work (seen names.old) (seen jumps.old) (seen code.old)) (work (seen names.new) (seen jumps.new) (seen code.new)) result }
-{
-    let place = token_at(tokens, at).place;
-    let start = code.len();
-    let mark = jumps.len();
-    emit(code, Op::Tick, 0, place);
-    let end = body(source, tokens, at + 1, names, jumps, code, true)?;
-    let next = code.len();
-    let semicolon = condition(source, tokens, past(tokens, end), names, code, place)?;
-    let exit = PendingJump::emit(code, Op::JumpIfZero, place);
-    close_loop(jumps, mark, code, exit, start, next, place);
-    Ok(past(tokens, semicolon))
-}
-
-// for ( int NAME = e to f ) s
-#[cycle(block_body_conditional_counting_do_loop_for_loop_otherwise_statement_statements_while_loop)]
-fn for_loop(
-    source: &[u8],
-    tokens: &[Token],
-    at: usize,
-    names: &mut BoundedStack<Name>,
-    jumps: &mut BoundedStack<Jump>,
-    code: &mut BoundedStack<Instruction>,
-) -> Result<usize, Refusal>
-    requires { at < length tokens.now }
-    ensures within { IfOk result (λ q. (at < q) × (q ≤ length tokens.now)) }
-    ensures same { TranslatesFor source.now tokens.now at (work (seen names.old) (seen jumps.old) (seen code.old)) (work (seen names.new) (seen jumps.new) (seen code.new)) result }
-{
-    let name = past(tokens, past(tokens, at + 1));
-    let inside = bounds(source, tokens, at, name, names, code)?;
-    let name_place = token_at(tokens, name).place;
-    let mark = names.len();
-    let cell = cells_in(names, mark);
-    if cell > CELLS_BEFORE_FOR {
-        return Err(Refusal {
-            reason: Reason::TooManyCells,
-            place: name_place,
-        });
-    }
-    enter(names, Entry::Level);
-    bind(tokens, name, Scalar::Int, names);
-    enter(names, Entry::Stop);
-    emit(code, Op::Store, cell + 1, name_place);
-    emit(code, Op::Store, cell, name_place);
-    let place = token_at(tokens, at).place;
-    let end = counting(source, tokens, inside, names, jumps, code, cell, place)?;
-    names.truncate(mark);
-    Ok(end)
-}
-
 // The start and the stop of a `for` at `at`, whose variable is at `name`; answers the place of the body.
 fn bounds(
-    source: &[u8],
-    tokens: &[Token],
+    text: &Text,
     at: usize,
     name: usize,
     names: &BoundedStack<Name>,
     code: &mut BoundedStack<Instruction>,
 ) -> Result<usize, Refusal>
-    ensures within { IfOk result (λ q. (name < q) × (q ≤ length tokens.now)) }
-    ensures same { TranslatesBounds source.now tokens.now at name (seen names.now) (seen code.old) (seen code.new) result }
+    ensures within { IfOk result (λ q. (name < q) × (q ≤ length text.now.tokens.now)) }
+    ensures same { TranslatesBounds text.now.source.now text.now.tokens.now at name (seen names.now) (seen code.old) (seen code.new) result }
 {
-    let first = past(tokens, past(tokens, name));
-    let start = expression(source, tokens, first, names, code)?;
-    let stop = expression(source, tokens, past(tokens, start.end), names, code)?;
-    if same_type(start.kind, Scalar::Int) && same_type(stop.kind, Scalar::Int) {
-        Ok(past(tokens, stop.end))
+    let first = text.past(text.past(name));
+    let start = expression(text, first, names, code)?;
+    let stop = expression(text, text.past(start.end), names, code)?;
+    if start.kind == Scalar::Int && stop.kind == Scalar::Int {
+        Ok(text.past(stop.end))
     } else {
-        Err(Refusal {
-            reason: Reason::TypeMismatch,
-            place: token_at(tokens, at).place,
-        })
+        Err(Reason::TypeMismatch.at(text.token_at(at).place))
     }
 }
 
-// The turns of a `for` whose variable has the cell, and its body.
-#[cycle(block_body_conditional_counting_do_loop_for_loop_otherwise_statement_statements_while_loop)]
-fn counting(
-    source: &[u8],
-    tokens: &[Token],
-    at: usize,
-    names: &mut BoundedStack<Name>,
-    jumps: &mut BoundedStack<Jump>,
-    code: &mut BoundedStack<Instruction>,
-    cell: usize,
-    place: u32,
-) -> Result<usize, Refusal>
-    requires { cell ≤ 62 }
-    ensures within { IfOk result (λ q. (at < q) × (q ≤ length tokens.now)) }
-    ensures same { TranslatesCount source.now tokens.now at cell place (work (seen names.old) (seen jumps.old) (seen code.old)) (work (seen names.new) (seen jumps.new) (seen code.new)) result }
-{
-    let start = code.len();
-    let mark = jumps.len();
-    emit_test(code, cell, place);
-    let exit = PendingJump::emit(code, Op::JumpIfZero, place);
-    match body(source, tokens, at, names, jumps, code, true) {
-        Ok(end) => {
-            let next = code.len();
-            emit_advance(code, cell, place);
-            close_loop(jumps, mark, code, exit, start, next, place);
+impl Work<'_> {
+    // A statement.
+    #[cycle(statements)]
+    fn statement(&mut self, text: &Text, at: usize, in_loop: bool) -> Result<usize, Refusal>
+        ensures within { IfOk result (λ q. (at < q) × (q ≤ length text.now.tokens.now)) }
+        ensures same { TranslatesStmt text.now.source.now text.now.tokens.now at in_loop (held self.old) (held self.new) result }
+    {
+        match text.lead_at(at) {
+            Some(Lead::Block) => self.block(text, at, in_loop),
+            Some(Lead::Definition) => definition(text, at, &mut self.names, &mut self.code),
+            Some(Lead::Name) => {
+                if !text.assigns_at(at + 1) {
+                    return evaluation(text, at, &self.names, &mut self.code);
+                }
+                match modifier_of(text.token_at(at + 1).kind) {
+                    Some(operator) => modification(text, at, operator, &self.names, &mut self.code),
+                    None => assignment(text, at, &self.names, &mut self.code),
+                }
+            }
+            Some(Lead::If) => self.conditional(text, at, in_loop),
+            Some(Lead::While) => self.while_loop(text, at),
+            Some(Lead::Do) => self.do_loop(text, at),
+            Some(Lead::For) => self.for_loop(text, at),
+            Some(Lead::Jump) => jump(text, at, &mut self.jumps, &mut self.code, in_loop),
+            Some(Lead::Return) => returning(text, at, &self.names, &mut self.code),
+            Some(Lead::Expression) => evaluation(text, at, &self.names, &mut self.code),
+            None => Err(Reason::UnexpectedToken.at(text.token_at(at).place)),
+        }
+    }
+
+    // Statements up to the brace that closes them; answers its place in the tokens.
+    #[cycle(statements)]
+    pub(crate) fn statements(
+        &mut self,
+        text: &Text,
+        at: usize,
+        in_loop: bool,
+    ) -> Result<usize, Refusal>
+        ensures within { IfOk result (λ q. (at ≤ q) × (q < length text.now.tokens.now)) }
+        ensures same { TranslatesStmts text.now.source.now text.now.tokens.now at in_loop (held self.old) (held self.new) result }
+    {
+        let mut end = at;
+        'statements: while !text.is_at(end, Kind::CloseBrace) {
+            end = self.statement(text, end, in_loop)?;
+        }
+        Ok(end)
+    }
+
+    // Statements in braces, in a level of their own.
+    #[cycle(statements)]
+    fn block(&mut self, text: &Text, at: usize, in_loop: bool) -> Result<usize, Refusal>
+        requires { at < length text.now.tokens.now }
+        ensures within { IfOk result (λ q. (at < q) × (q ≤ length text.now.tokens.now)) }
+        ensures same { TranslatesBlock text.now.source.now text.now.tokens.now at in_loop (held self.old) (held self.new) result }
+    {
+        let mark = self.names.len();
+        enter(&mut self.names, Entry::Level);
+        let close = self.statements(text, at + 1, in_loop)?;
+        self.names.truncate(mark);
+        Ok(close + 1)
+    }
+
+    // The body of a statement, in a level of its own.
+    #[cycle(statements)]
+    fn body(&mut self, text: &Text, at: usize, in_loop: bool) -> Result<usize, Refusal>
+        ensures within { IfOk result (λ q. (at < q) × (q ≤ length text.now.tokens.now)) }
+        ensures same { TranslatesBody text.now.source.now text.now.tokens.now at in_loop (held self.old) (held self.new) result }
+    {
+        let mark = self.names.len();
+        enter(&mut self.names, Entry::Level);
+        let end = self.statement(text, at, in_loop)?;
+        self.names.truncate(mark);
+        Ok(end)
+    }
+
+    // if ( e ) s, perhaps with an `else`.
+    #[cycle(statements)]
+    fn conditional(&mut self, text: &Text, at: usize, in_loop: bool) -> Result<usize, Refusal>
+        requires { at < length text.now.tokens.now }
+        ensures within { IfOk result (λ q. (at < q) × (q ≤ length text.now.tokens.now)) }
+        ensures same { TranslatesConditional text.now.source.now text.now.tokens.now at in_loop (held self.old) (held self.new) result }
+    {
+        let place = text.token_at(at).place;
+        let inside = condition(text, at + 1, &self.names, &mut self.code, place)?;
+        let skip = PendingJump::emit(&mut self.code, Op::JumpIfZero, place);
+        let (skip, end) = skip.after(self.body(text, inside, in_loop))?;
+        if text.is_at(end, Kind::Else) {
+            self.otherwise(text, end, in_loop, skip, place)
+        } else {
+            let after = self.code.len();
+            skip.land(&mut self.code, after);
             Ok(end)
         }
-        Err(refusal) => {
-            exit.give_up();
-            Err(refusal)
+    }
+
+    // `else` and its body: `skip` lands at the body, and what stood before it jumps over the body.
+    #[cycle(statements)]
+    fn otherwise(
+        &mut self,
+        text: &Text,
+        at: usize,
+        in_loop: bool,
+        skip: PendingJump,
+        place: u32,
+    ) -> Result<usize, Refusal>
+        requires { at < length text.now.tokens.now }
+        ensures within { IfOk result (λ q. (at < q) × (q ≤ length text.now.tokens.now)) }
+        ensures same { TranslatesElse text.now.source.now text.now.tokens.now at in_loop skip.at place (held self.old) (held self.new) result }
+    {
+        let done = PendingJump::emit(&mut self.code, Op::Jump, place);
+        let start = self.code.len();
+        skip.land(&mut self.code, start);
+        let (done, end) = done.after(self.body(text, at + 1, in_loop))?;
+        let after = self.code.len();
+        done.land(&mut self.code, after);
+        Ok(end)
+    }
+
+    // while ( e ) s
+    #[cycle(statements)]
+    fn while_loop(&mut self, text: &Text, at: usize) -> Result<usize, Refusal>
+        requires { at < length text.now.tokens.now }
+        ensures within { IfOk result (λ q. (at < q) × (q ≤ length text.now.tokens.now)) }
+        ensures same { TranslatesWhile text.now.source.now text.now.tokens.now at (held self.old) (held self.new) result }
+    {
+        let place = text.token_at(at).place;
+        let start = self.code.len();
+        let mark = self.jumps.len();
+        emit(&mut self.code, Op::Tick, 0, place);
+        let inside = condition(text, at + 1, &self.names, &mut self.code, place)?;
+        let exit = PendingJump::emit(&mut self.code, Op::JumpIfZero, place);
+        let (exit, end) = exit.after(self.body(text, inside, true))?;
+        close_loop(
+            &mut self.jumps,
+            mark,
+            &mut self.code,
+            exit,
+            start,
+            start,
+            place,
+        );
+        Ok(end)
+    }
+
+    // do s while ( e ) ;
+    #[cycle(statements)]
+    fn do_loop(&mut self, text: &Text, at: usize) -> Result<usize, Refusal>
+        requires { at < length text.now.tokens.now }
+        ensures within { IfOk result (λ q. (at < q) × (q ≤ length text.now.tokens.now)) }
+        ensures same { TranslatesDo text.now.source.now text.now.tokens.now at (held self.old) (held self.new) result }
+    {
+        let place = text.token_at(at).place;
+        let start = self.code.len();
+        let mark = self.jumps.len();
+        emit(&mut self.code, Op::Tick, 0, place);
+        let end = self.body(text, at + 1, true)?;
+        let next = self.code.len();
+        let semicolon = condition(text, text.past(end), &self.names, &mut self.code, place)?;
+        let exit = PendingJump::emit(&mut self.code, Op::JumpIfZero, place);
+        close_loop(
+            &mut self.jumps,
+            mark,
+            &mut self.code,
+            exit,
+            start,
+            next,
+            place,
+        );
+        Ok(text.past(semicolon))
+    }
+
+    // for ( int NAME = e to f ) s
+    #[cycle(statements)]
+    fn for_loop(&mut self, text: &Text, at: usize) -> Result<usize, Refusal>
+        requires { at < length text.now.tokens.now }
+        ensures within { IfOk result (λ q. (at < q) × (q ≤ length text.now.tokens.now)) }
+        ensures same { TranslatesFor text.now.source.now text.now.tokens.now at (held self.old) (held self.new) result }
+    {
+        let name = text.past(text.past(at + 1));
+        let inside = bounds(text, at, name, &self.names, &mut self.code)?;
+        let name_place = text.token_at(name).place;
+        let mark = self.names.len();
+        let cell = cells_in(&self.names, mark);
+        if cell > CELLS_BEFORE_FOR {
+            return Err(Reason::TooManyCells.at(name_place));
         }
+        enter(&mut self.names, Entry::Level);
+        bind(text, name, Scalar::Int, &mut self.names);
+        enter(&mut self.names, Entry::Stop);
+        emit(&mut self.code, Op::Store, cell + 1, name_place);
+        emit(&mut self.code, Op::Store, cell, name_place);
+        let place = text.token_at(at).place;
+        let end = self.counting(text, inside, cell, place)?;
+        self.names.truncate(mark);
+        Ok(end)
+    }
+
+    // The turns of a `for` whose variable has the cell, and its body.
+    #[cycle(statements)]
+    fn counting(
+        &mut self,
+        text: &Text,
+        at: usize,
+        cell: usize,
+        place: u32,
+    ) -> Result<usize, Refusal>
+        requires { cell ≤ 62 }
+        ensures within { IfOk result (λ q. (at < q) × (q ≤ length text.now.tokens.now)) }
+        ensures same { TranslatesCount text.now.source.now text.now.tokens.now at cell place (held self.old) (held self.new) result }
+    {
+        let start = self.code.len();
+        let mark = self.jumps.len();
+        emit_test(&mut self.code, cell, place);
+        let exit = PendingJump::emit(&mut self.code, Op::JumpIfZero, place);
+        let (exit, end) = exit.after(self.body(text, at, true))?;
+        let next = self.code.len();
+        emit_advance(&mut self.code, cell, place);
+        close_loop(
+            &mut self.jumps,
+            mark,
+            &mut self.code,
+            exit,
+            start,
+            next,
+            place,
+        );
+        Ok(end)
     }
 }

@@ -6,10 +6,11 @@ ghost use Rattle.translator.specs.Scripts.{SizesAre, Compiles};
 ghost use Rattle.translator.specs.Translation.{Translation, tokens_after, OneAnswer};
 
 use crate::counts::Counts;
-use crate::name::{Entry, Name};
+use crate::name::Name;
 use crate::pending::Jump;
-use crate::script::script;
+use crate::work::Work;
 use lexer::{SOURCE_LIMIT, TOKEN_LIMIT, Token, read};
+use lookahead::Text;
 use machine::Instruction;
 use parser::parse;
 use refusal::{Reason, Refusal};
@@ -21,38 +22,20 @@ pub const CODE_LIMIT: usize = 4 * TOKEN_LIMIT;
 // Room for the names of a script: fewer than one a token, and four that no token defines.
 const NAMES: usize = TOKEN_LIMIT + 4;
 
-// Records that are not filled.
-const NO_NAME: Name = Name {
-    entry: Entry::Level,
-    place: 0,
-    length: 0,
-};
-
-const NO_JUMP: Jump = Jump {
-    at: 0,
-    leaves: false,
-};
-
-const NO_INSTRUCTION: Instruction = Instruction {
-    code: 0,
-    operand: 0,
-    place: 0,
-};
-
 // A source that is not too long, and lists that are long enough.
 fn check_sizes(source: &[u8], tokens: &[Token], code: &[Instruction]) -> Result<(), Refusal>
     ensures { SizesAre source.now tokens.now code.now result }
 {
-    let reason = if source.len() > SOURCE_LIMIT {
-        Reason::SourceTooLong
-    } else if tokens.len() < TOKEN_LIMIT {
-        Reason::TokenListShort
-    } else if code.len() < CODE_LIMIT {
-        Reason::CodeListShort
-    } else {
-        return Ok(());
-    };
-    Err(Refusal { reason, place: 0 })
+    if source.len() > SOURCE_LIMIT {
+        return Err(Reason::SourceTooLong.into());
+    }
+    if tokens.len() < TOKEN_LIMIT {
+        return Err(Reason::TokenListShort.into());
+    }
+    if code.len() < CODE_LIMIT {
+        return Err(Reason::CodeListShort.into());
+    }
+    Ok(())
 }
 
 // Copies code into the first records of a list, and answers how many they are.
@@ -60,13 +43,10 @@ fn copy_code(from: &BoundedStack<Instruction>, to: &mut [Instruction]) -> usize
     ensures count { result ≡ length (seen from.now).held }
     ensures list { result ≤ length to.old → to.new ≡ (seen from.now).held ++ drop result to.old }
 {
-    let count = from.len();
-    'records: for i in 0..count.min(to.len()) {
-        if let Some(instruction) = from.get(i) {
-            to[i] = instruction;
-        }
-    }
-    count
+    let made = from.as_slice();
+    let fitting = made.len().min(to.len());
+    to[..fitting].copy_from_slice(&made[..fitting]);
+    made.len()
 }
 
 // Compiles the tokens of a source, and answers how many instructions came of them. The list changes only where the tokens
@@ -75,14 +55,16 @@ fn compile(source: &[u8], tokens: &[Token], code: &mut [Instruction]) -> Result<
     ensures { Compiles source.now tokens.now code.old code.new result }
 {
     parse(source, tokens)?;
-    let mut names = [NO_NAME; NAMES];
-    let mut jumps = [NO_JUMP; TOKEN_LIMIT];
-    let mut records = [NO_INSTRUCTION; CODE_LIMIT];
-    let mut names = BoundedStack::new(&mut names);
-    let mut jumps = BoundedStack::new(&mut jumps);
-    let mut made = BoundedStack::new(&mut records);
-    script(source, tokens, &mut names, &mut jumps, &mut made)?;
-    Ok(copy_code(&made, code))
+    let mut names = [Name::default(); NAMES];
+    let mut jumps = [Jump::default(); TOKEN_LIMIT];
+    let mut records = [Instruction::default(); CODE_LIMIT];
+    let mut work = Work {
+        names: BoundedStack::new(&mut names),
+        jumps: BoundedStack::new(&mut jumps),
+        code: BoundedStack::new(&mut records),
+    };
+    work.script(&Text { source, tokens })?;
+    Ok(copy_code(&work.code, code))
 }
 
 // Translates a source: its tokens come into the first records of `tokens`, its code into those of `code`, and the answer is

@@ -1,15 +1,15 @@
-// What the parts of an expression came to.
+// What the parts of an expression came to: a struct each, whose first field's name says what it is, not one generic.
 use meaning::Scalar;
 
 // An expression's type, and the place in the tokens after it.
-#[derive(Clone, Copy)]
+#[derive(Clone, Copy, PartialEq, Eq, Debug)]
 pub(crate) struct Typed {
     pub(crate) kind: Scalar,
     pub(crate) end: usize,
 }
 
-// The arguments of a call, as far as they matter: no function takes more than one.
-#[derive(Clone, Copy)]
+// The arguments of a call, as far as they matter: no function takes more than one. Three cases, so no `Option`.
+#[derive(Clone, Copy, PartialEq, Eq, Debug)]
 pub(crate) enum Given {
     Nothing,
     One(Scalar),
@@ -17,22 +17,15 @@ pub(crate) enum Given {
 }
 
 // The arguments of a call, and the place in the tokens after them.
-#[derive(Clone, Copy)]
+#[derive(Clone, Copy, PartialEq, Eq, Debug)]
 pub(crate) struct Listed {
     pub(crate) given: Given,
     pub(crate) end: usize,
 }
 
-// What a call gives, and the place in the tokens after it.
-#[derive(Clone, Copy)]
+// What a call or a whole expression statement gives, and the place in the tokens after it.
+#[derive(Clone, Copy, PartialEq, Eq, Debug)]
 pub(crate) struct Called {
     pub(crate) gives: Option<Scalar>,
-    pub(crate) end: usize,
-}
-
-// A whole expression statement: whether it leaves a value, and the place in the tokens after it.
-#[derive(Clone, Copy)]
-pub(crate) struct Whole {
-    pub(crate) leaves: bool,
     pub(crate) end: usize,
 }

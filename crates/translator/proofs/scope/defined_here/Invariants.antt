@@ -3,8 +3,5 @@ use Rattle.stacks.specs.Held.{seen}
 use Rattle.translator.proofs.Records.{Open}
 use Rattle.translator.proofs.scope.defined_here.Given as goal
 
-abbrev pub invariant-newest : goal.invariant-newest
-invariant-newest l = Open l.source (seen l.names).held l.text l.i
-
-abbrev pub decreases-newest : goal.decreases-newest
-decreases-newest l = l.i
+abbrev pub invariant-loop-name : goal.invariant-loop-name
+invariant-loop-name l = Open l.source (seen l.names).held l.word l.name-iterator.iter.rest.now

@@ -1,24 +1,19 @@
--- Each record is the newest of those that are left.
-use Rattle.std.proofs.Common.{◌≡◌, ◌-◌, arith}
+-- The records after the newest that defines the name do not.
+use Rattle.std.proofs.Common.{rules}
 use Rattle.stacks.specs.Held.{seen}
-use Rattle.translator.proofs.Records.{unnamed_none, unnamed_past, unnamed_more, finds_some, finds_none}
+use Rattle.translator.specs.declared.name.Name.{Name}
+use Rattle.translator.specs.declared.name.Entry.TheVariants.{Level}
+use Rattle.translator.proofs.Records.{finds_none, finds_some}
 use Rattle.translator.proofs.scope.find.Goals as goal
 
-pub newest-init : goal.newest-init
-newest-init c = rw c.len-i.ensures (unnamed_none _ _ _)
+-- what an index past the end would give
+abbrev past : Name
+past = record { entry = Level; place = 0; length = 0 }
 
-pub returns-then-defines : goal.returns-then-defines
-returns-then-defines c =
-    finds_some c.args.source.now (seen c.args.names.now).held c.args.text.now (c.newest.i - 1) c.newest.i (omega arith) c.in-Some.name c.in-Some.ensures
-    c.if-defines.ensures c.newest.invariant
-
-pub newest-preserved-else-defines : goal.newest-preserved-else-defines
-newest-preserved-else-defines c = unnamed_more _ _ _ _ _ (omega arith) _ c.in-Some.ensures c.if-defines.ensures c.newest.invariant
-
-pub newest-preserved : goal.newest-preserved
-newest-preserved c = unnamed_past _ _ _ _ _ (omega arith) c.in_default.ensures c.newest.invariant
+pub returns-in_err-newest : goal.returns-in_err-newest
+returns-in_err-newest c =
+    rw c.from_residual.ensures (finds_none _ (seen c.args.names.now).held _ past (λ k a b. search rules))
 
 pub returns : goal.returns
 returns c =
-    let e : c.newest.i ≡ 0 = omega arith in
-    finds_none c.args.source.now (seen c.args.names.now).held c.args.text.now (rw e at c.newest.invariant)
+    rw c.as_slice-records.ensures (finds_some _ (seen c.args.names.now).held _ past _ (search rules) (search rules) (λ k a b. search rules))

@@ -12,11 +12,11 @@ returns-in_err-declare c =
     rw (p.1, p.2) (record {
       within = tt;
       same = λ q t x a C h.
-          let s = c.args.source.now in
-          let ts = c.args.tokens.now in
+          let s = c.args.text.now.source.now in
+          let ts = c.args.text.now.tokens.now in
           let w =
           seen_extern s ts c.args.at c.past-name.result c.past.result c.past-inside.result c.token_at.result c.given_by-gives.result c.parameter_at-parameter.result q t x a h.rest
-          h.stands c.past-name.ensures.next c.past.ensures.next c.past-inside.ensures.next c.token_at.ensures c.given_by-gives.ensures c.parameter_at-parameter.ensures.same in
+          h.stands c.past-name.ensures.next c.past.ensures.next c.past-inside.ensures.next c.token_at.ensures.there c.given_by-gives.ensures c.parameter_at-parameter.ensures.same in
           extern_fault s ts (seen c.args.names.now) (seen c.declare.new.names) C q t x a h.code c.given_by-gives.result c.parameter_at-parameter.result.takes w.gives w.taken _
           (c.in_err-declare.ensures x _ w.named);
     })
@@ -26,11 +26,11 @@ returns c =
     record {
       within = search rules;
       same = λ q t x a C h.
-          let s = c.args.source.now in
-          let ts = c.args.tokens.now in
+          let s = c.args.text.now.source.now in
+          let ts = c.args.text.now.tokens.now in
           let w =
           seen_extern s ts c.args.at c.past-name.result c.past.result c.past-inside.result c.token_at.result c.given_by-gives.result c.parameter_at-parameter.result q t x a h.rest
-          h.stands c.past-name.ensures.next c.past.ensures.next c.past-inside.ensures.next c.token_at.ensures c.given_by-gives.ensures c.parameter_at-parameter.ensures.same in
+          h.stands c.past-name.ensures.next c.past.ensures.next c.past-inside.ensures.next c.token_at.ensures.there c.given_by-gives.ensures c.parameter_at-parameter.ensures.same in
           let e = past_is s ts c.past-2.result c.past-3.result _ _ (past_is s ts _ c.past-2.result _ _ w.closed c.past-2.ensures.next) c.past-3.ensures.next in
           extern_done s ts (seen c.args.names.now) (seen c.declare.new.names) C q t x a h.code c.given_by-gives.result c.parameter_at-parameter.result.takes w.gives w.taken c.args.at
           c.past-3.result h refl e (c.in_ok-declare.ensures x _ w.named);

@@ -8,7 +8,7 @@ returns-then-is_at c =
     record {
       within = c.external.ensures.within;
       same =
-          item_extern c.args.source.now c.args.tokens.now c.args.at (seen c.args.names.now) (seen c.external.new.names) (seen c.args.code.now) (seen c.args.code.now)
+          item_extern c.args.text.now.source.now c.args.text.now.tokens.now c.args.at (seen c.args.names.now) (seen c.external.new.names) (seen c.args.code.now) (seen c.args.code.now)
           c.external.result (sym c.if-is_at.ensures.same) c.external.ensures.same;
     }
 
@@ -17,6 +17,6 @@ returns-else-is_at c =
     record {
       within = passed c.global.result c.args.at c.past_static.result _ c.requires c.past_static.ensures.near c.global.ensures.within;
       same =
-          item_global c.args.source.now c.args.tokens.now c.args.at (seen c.args.names.now) (seen c.global.new.names) (seen c.args.code.now) (seen c.global.new.code)
+          item_global c.args.text.now.source.now c.args.text.now.tokens.now c.args.at (seen c.args.names.now) (seen c.global.new.names) (seen c.args.code.now) (seen c.global.new.code)
           c.past_static.result c.global.result (sym c.if-is_at.ensures.same) c.past_static.ensures.same c.global.ensures.same;
     }

@@ -6,16 +6,16 @@ use Rattle.translator.proofs.translation.check_sizes.Goals as goal
 
 pub returns-then-source-gt-SOURCE_LIMIT : goal.returns-then-source-gt-SOURCE_LIMIT
 returns-then-source-gt-SOURCE_LIMIT c =
-    let a : ltb 16384 (length c.args.source.now) ≡ true = grind (arith, nat_tests) in (long c.if-source-gt-SOURCE_LIMIT.true, rw a)
+    let a : ltb 16384 (length c.args.source.now) ≡ true = grind (arith, nat_tests) in rw c.into.ensures (long c.if-source-gt-SOURCE_LIMIT.true, rw a)
 
 pub returns-then-tokens-lt-TOKEN_LIMIT : goal.returns-then-tokens-lt-TOKEN_LIMIT
 returns-then-tokens-lt-TOKEN_LIMIT c =
     let a : ltb 16384 (length c.args.source.now) ≡ false = grind (arith, nat_tests) in
-    let b : ltb (length c.args.tokens.now) 1024 ≡ true = grind (arith, nat_tests) in (few_tokens c.if-source-gt-SOURCE_LIMIT.false c.if-tokens-lt-TOKEN_LIMIT.true, rw (a, b))
+    let b : ltb (length c.args.tokens.now) 1024 ≡ true = grind (arith, nat_tests) in rw c.into-then-tokens-lt-TOKEN_LIMIT.ensures (few_tokens c.if-source-gt-SOURCE_LIMIT.false c.if-tokens-lt-TOKEN_LIMIT.true, rw (a, b))
 
 pub returns-then-code-lt-CODE_LIMIT : goal.returns-then-code-lt-CODE_LIMIT
 returns-then-code-lt-CODE_LIMIT c =
     let a : ltb 16384 (length c.args.source.now) ≡ false = grind (arith, nat_tests) in
     let b : ltb (length c.args.tokens.now) 1024 ≡ false = grind (arith, nat_tests) in
     let d : ltb (length c.args.code.now) 4096 ≡ true = grind (arith, nat_tests) in
-    (few_records c.if-source-gt-SOURCE_LIMIT.false c.if-tokens-lt-TOKEN_LIMIT.false c.if-code-lt-CODE_LIMIT.true, rw (a, b, d))
+    rw c.into-then-code-lt-CODE_LIMIT.ensures (few_records c.if-source-gt-SOURCE_LIMIT.false c.if-tokens-lt-TOKEN_LIMIT.false c.if-code-lt-CODE_LIMIT.true, rw (a, b, d))
