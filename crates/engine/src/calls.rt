@@ -22,13 +22,6 @@ const TICK_LIMIT: u32 = 1_000_000;
 // The most ticks of all goes since a load or rewind.
 const GRANT_LIMIT: u64 = 4_000_000_000;
 
-// A refusal that is about no byte of a source.
-fn placeless(reason: Reason) -> Refusal
-    ensures { result ≡ record { reason = reason; place = 0 } }
-{
-    Refusal { reason, place: 0 }
-}
-
 impl Engine {
     // An engine with nothing loaded.
     pub fn new() -> Engine
@@ -66,9 +59,7 @@ impl Engine {
         ensures does { Rewinds (holds self.old) (told result) (holds self.new) }
         ensures law { (code : List Instruction) (b : Meaning) → Lawful (state (holds self.old) code b) rewind (told result) (state (holds self.new) code b) }
     {
-        let Some(count) = self.loaded else {
-            return Err(placeless(Reason::NothingLoaded));
-        };
+        let count = self.loaded.ok_or(Reason::NothingLoaded)?;
         self.start(count);
         Ok(())
     }
@@ -84,7 +75,7 @@ impl Engine {
         ensures law { Lawful (state (holds self.old) code.now (B.meaning board.old)) (go ticks) (told_go result) (state (holds self.new) code.now (B.meaning board.new)) }
     {
         let count = self.may_go(code.len(), ticks)?;
-        self.granted += ticks as u64;
+        self.granted += u64::from(ticks);
         Ok(self.machine.run(code, count, board, ticks))
     }
 
@@ -101,20 +92,18 @@ impl Engine {
     fn may_go(&self, slots: usize, ticks: u32) -> Result<usize, Refusal>
         ensures { told result ≡ unless (go_reasons (holds self.now) slots ticks) (records self.now.loaded) }
     {
-        let Some(count) = self.loaded else {
-            return Err(placeless(Reason::NothingLoaded));
-        };
+        let count = self.loaded.ok_or(Reason::NothingLoaded)?;
         if slots < count {
-            return Err(placeless(Reason::CodeListCut));
+            return Err(Reason::CodeListCut.into());
         }
         if ticks > TICK_LIMIT {
-            return Err(placeless(Reason::TooManyTicks));
+            return Err(Reason::TooManyTicks.into());
         }
         if self.machine.is_over() {
-            return Err(placeless(Reason::RunOver));
+            return Err(Reason::RunOver.into());
         }
-        if self.granted + ticks as u64 > GRANT_LIMIT {
-            return Err(placeless(Reason::GrantTooLarge));
+        if self.granted + u64::from(ticks) > GRANT_LIMIT {
+            return Err(Reason::GrantTooLarge.into());
         }
         Ok(count)
     }

@@ -6,7 +6,7 @@ mod tests;
 
 use boards::{Board, Stats};
 use engine::Engine;
-use lexer::{Kind, TOKEN_LIMIT, Token};
+use lexer::{TOKEN_LIMIT, Token};
 use machine::{Answer, Instruction};
 use refusal::Refusal;
 use std::io;
@@ -16,24 +16,10 @@ use translator::CODE_LIMIT;
 // Zone i is 10 x i.
 const ZONES: [i32; 12] = [0, 10, 20, 30, 40, 50, 60, 70, 80, 90, 100, 110];
 
-// Records that are not filled.
-pub(crate) const NO_TOKEN: Token = Token {
-    kind: Kind::Name,
-    place: 0,
-    length: 0,
-    value: 0,
-};
-
-pub(crate) const NO_INSTRUCTION: Instruction = Instruction {
-    code: 0,
-    operand: 0,
-    place: 0,
-};
-
-// Loads a source, and lets it go with 1,000 ticks.
+// Loads a source, and lets it go with 1,000 ticks, as `fennec` does: these lines are no reason for a library under both.
 fn measure<B: Board>(source: &[u8], board: &mut B) -> Result<Answer, Refusal> {
-    let mut tokens = [NO_TOKEN; TOKEN_LIMIT];
-    let mut code = [NO_INSTRUCTION; CODE_LIMIT];
+    let mut tokens = [Token::default(); TOKEN_LIMIT];
+    let mut code = [Instruction::default(); CODE_LIMIT];
     let mut engine = Engine::new();
     engine.load(source, &mut tokens, &mut code)?;
     engine.go(&code, board, 1_000)
@@ -46,17 +32,17 @@ fn print_line(rt: &HostRuntime, source: &[u8]) -> io::Result<()> {
     };
     match measure(source, &mut board) {
         Ok(answer) => {
-            let number = answer.ending.number();
-            let value = answer.ending.value();
-            let place = answer.place;
-            let spent = answer.spent;
+            let Answer {
+                ending,
+                place,
+                spent,
+                ..
+            } = answer;
+            let number = ending.number();
+            let value = ending.value();
             println!(rt; "ending {number} {value} {place} ticks {spent}")
         }
-        Err(refusal) => {
-            let number = refusal.reason.number();
-            let place = refusal.place;
-            println!(rt; "refused {number} {place}")
-        }
+        Err(refusal) => println!(rt; "{refusal}"),
     }
 }
 

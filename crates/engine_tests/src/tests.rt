@@ -1,7 +1,7 @@
 // What calls refuse, in which order, and what they leave.
-use crate::{NO_INSTRUCTION, NO_TOKEN};
 use boards::{Board, Stats};
 use engine::Engine;
+use lexer::Token;
 use machine::Instruction;
 use refusal::Refusal;
 use std::test::Fail;
@@ -22,20 +22,6 @@ fn accepted<T>(res: Result<T, Refusal>) -> Result<T, Fail> {
     }
 }
 
-// Whether two code lists hold the same records.
-fn same_code(left: &[Instruction], right: &[Instruction]) -> bool {
-    if left.len() != right.len() {
-        return false;
-    }
-    for i in 0..left.len() {
-        let (a, b) = (left[i], right[i]);
-        if a.code != b.code || a.operand != b.operand || a.place != b.place {
-            return false;
-        }
-    }
-    true
-}
-
 const ZONE: [i32; 1] = [7];
 
 #[test]
@@ -51,8 +37,8 @@ fn nothing_is_loaded_at_first(rt: HostRuntime) -> Result<(), Fail> {
 fn lengths_are_refused_in_order(rt: HostRuntime) {
     let mut engine = Engine::new();
     let long = [b' '; 16_385];
-    let mut tokens = [NO_TOKEN; 1_024];
-    let mut code = [NO_INSTRUCTION; 4_096];
+    let mut tokens = [Token::default(); 1_024];
+    let mut code = [Instruction::default(); 4_096];
     assert_eq!(rt; told(engine.load(&long, &mut [], &mut [])), (1, 0));
     assert_eq!(rt;
         told(engine.load(b"@", &mut tokens[0..1_023], &mut [])),
@@ -69,8 +55,8 @@ fn lengths_are_refused_in_order(rt: HostRuntime) {
 #[test]
 fn a_refused_load_changes_nothing(rt: HostRuntime) -> Result<(), Fail> {
     let mut engine = Engine::new();
-    let mut tokens = [NO_TOKEN; 1_024];
-    let mut code = [NO_INSTRUCTION; 4_096];
+    let mut tokens = [Token::default(); 1_024];
+    let mut code = [Instruction::default(); 4_096];
     let mut board = accepted(Stats::new(1, 1, &ZONE, 0))?;
     accepted(engine.load(b"int main(){while(true){}}", &mut tokens, &mut code))?;
     accepted(engine.go(&code, &mut board, 5))?;
@@ -79,7 +65,7 @@ fn a_refused_load_changes_nothing(rt: HostRuntime) -> Result<(), Fail> {
         told(engine.load(b"int main(){x;}", &mut tokens, &mut code)),
         (13, 11)
     );
-    assert!(rt; same_code(&code, &before));
+    assert!(rt; code == before);
     let answer = accepted(engine.go(&code, &mut board, 3))?;
     assert_eq!(rt; answer.spent, 8);
     assert_eq!(rt; (answer.ending.number(), answer.place), (1, 11));
@@ -89,8 +75,8 @@ fn a_refused_load_changes_nothing(rt: HostRuntime) -> Result<(), Fail> {
 #[test]
 fn goes_are_refused_in_order(rt: HostRuntime) -> Result<(), Fail> {
     let mut engine = Engine::new();
-    let mut tokens = [NO_TOKEN; 1_024];
-    let mut code = [NO_INSTRUCTION; 4_096];
+    let mut tokens = [Token::default(); 1_024];
+    let mut code = [Instruction::default(); 4_096];
     let mut board = accepted(Stats::new(1, 1, &ZONE, 0))?;
     let counts = accepted(engine.load(b"int main(){return 7;}", &mut tokens, &mut code))?;
     assert_eq!(rt; counts.tokens, 9);
@@ -111,8 +97,8 @@ fn goes_are_refused_in_order(rt: HostRuntime) -> Result<(), Fail> {
 #[test]
 fn code_that_was_changed_is_run_as_it_is(rt: HostRuntime) -> Result<(), Fail> {
     let mut engine = Engine::new();
-    let mut tokens = [NO_TOKEN; 1_024];
-    let mut code = [NO_INSTRUCTION; 4_096];
+    let mut tokens = [Token::default(); 1_024];
+    let mut code = [Instruction::default(); 4_096];
     let mut board = accepted(Stats::new(1, 1, &ZONE, 0))?;
     accepted(engine.load(b"int main(){return 7;}", &mut tokens, &mut code))?;
     let first = code[0];
@@ -139,8 +125,8 @@ fn code_that_was_changed_is_run_as_it_is(rt: HostRuntime) -> Result<(), Fail> {
 #[test]
 fn the_token_list_begins_with_what_was_read(rt: HostRuntime) {
     let mut engine = Engine::new();
-    let mut tokens = [NO_TOKEN; 1_025];
-    let mut code = [NO_INSTRUCTION; 4_096];
+    let mut tokens = [Token::default(); 1_025];
+    let mut code = [Instruction::default(); 4_096];
     assert_eq!(rt; told(engine.load(b"int @", &mut tokens, &mut code)), (4, 4));
     assert_eq!(rt; (tokens[0].length, tokens[1].length), (3, 0));
     assert_eq!(rt;

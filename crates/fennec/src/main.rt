@@ -4,8 +4,8 @@
 
 use boards::{Board, Stats};
 use engine::Engine;
-use lexer::{Kind, TOKEN_LIMIT, Token};
-use machine::{Answer, Ending, Instruction};
+use lexer::{TOKEN_LIMIT, Token};
+use machine::{Answer, Instruction};
 use refusal::Refusal;
 use std::io;
 use std::io::Read;
@@ -22,63 +22,33 @@ const ALLOWANCE: u32 = 16;
 
 const TICKS: u32 = 1_000;
 
-// Records that are not filled.
-const NO_TOKEN: Token = Token {
-    kind: Kind::Name,
-    place: 0,
-    length: 0,
-    value: 0,
-};
-
-const NO_INSTRUCTION: Instruction = Instruction {
-    code: 0,
-    operand: 0,
-    place: 0,
-};
-
 // Loads the source and lets it go with all its ticks.
 fn measure<B: Board>(source: &[u8], board: &mut B) -> Result<Answer, Refusal> {
-    let mut tokens = [NO_TOKEN; TOKEN_LIMIT];
-    let mut code = [NO_INSTRUCTION; CODE_LIMIT];
+    let mut tokens = [Token::default(); TOKEN_LIMIT];
+    let mut code = [Instruction::default(); CODE_LIMIT];
     let mut engine = Engine::new();
     engine.load(source, &mut tokens, &mut code)?;
     engine.go(&code, board, TICKS)
 }
 
-fn name_of(ending: Ending) -> &'static str {
-    match ending {
-        Ending::Returned(_) => "returned",
-        Ending::Waiting => "waiting",
-        Ending::Divided => "divided",
-        Ending::Board(_) => "board",
-        Ending::Broken => "broken",
-    }
-}
-
-// Every report that the board kept, in order.
+// Every report that the board kept, in order. The program `frames` has this loop with another word in the line.
 fn print_reports<B: Board>(rt: &HostRuntime, board: &mut B) -> io::Result<()> {
-    for k in 0..usize::MAX {
-        let Some(report) = board.kept(k) else {
-            return Ok(());
-        };
+    for report in (0..usize::MAX).map_while(|k| board.kept(k)) {
         println!(rt; "report {report}")?;
     }
     Ok(())
 }
 
 fn print_answer(rt: &HostRuntime, answer: Answer) -> io::Result<()> {
-    let name = name_of(answer.ending);
-    let value = answer.ending.value();
-    let place = answer.place;
-    let spent = answer.spent;
-    println!(rt; "ending {name} {value} {place}")?;
+    let Answer {
+        ending,
+        place,
+        spent,
+        ..
+    } = answer;
+    let value = ending.value();
+    println!(rt; "ending {ending} {value} {place}")?;
     println!(rt; "ticks {spent}")
-}
-
-fn print_refusal(rt: &HostRuntime, refusal: Refusal) -> io::Result<()> {
-    let number = refusal.reason.number();
-    let place = refusal.place;
-    println!(rt; "refused {number} {place}")
 }
 
 fn main(rt: HostRuntime) -> io::Result<()> {
@@ -90,8 +60,8 @@ fn main(rt: HostRuntime) -> io::Result<()> {
                 print_reports(&rt, &mut board)?;
                 print_answer(&rt, answer)
             }
-            Err(refusal) => print_refusal(&rt, refusal),
+            Err(refusal) => println!(rt; "{refusal}"),
         },
-        Err(refusal) => print_refusal(&rt, refusal),
+        Err(refusal) => println!(rt; "{refusal}"),
     }
 }

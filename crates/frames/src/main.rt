@@ -2,14 +2,13 @@
 // script that is refused in between changes nothing; then the run starts anew.
 #![tactic(auto)]
 
-mod fault;
 mod show;
 
 use boards::{Board, Crop, Frame, Window};
 use engine::Engine;
-use fault::Fault;
-use lexer::{Kind, TOKEN_LIMIT, Token};
+use lexer::{TOKEN_LIMIT, Token};
 use machine::Instruction;
+use refusal::Refusal;
 use show::{print_go, print_load, print_reports, print_rewind};
 use std::io;
 use translator::CODE_LIMIT;
@@ -41,33 +40,19 @@ const MIDDLE: Window = Window {
 // Ticks for one frame.
 const FEW: u32 = 7;
 
-// Records that are not filled.
-const NO_TOKEN: Token = Token {
-    kind: Kind::Name,
-    place: 0,
-    length: 0,
-    value: 0,
-};
-
-const NO_INSTRUCTION: Instruction = Instruction {
-    code: 0,
-    operand: 0,
-    place: 0,
-};
-
 // A picture of 64 x 48 bytes that grows brighter from left to right.
 fn picture() -> [u8; 3072] {
     let mut bytes = [0; 3072];
-    for i in 0..3072 {
-        bytes[i] = (i % 64) as u8 * 4;
+    for (i, byte) in bytes.iter_mut().enumerate() {
+        *byte = (i % 64) as u8 * 4;
     }
     bytes
 }
 
 // Two frames, a script that is refused, three more frames; then the run starts anew and gets all it needs.
 fn drive<B: Board>(rt: &HostRuntime, board: &mut B) -> io::Result<()> {
-    let mut tokens = [NO_TOKEN; TOKEN_LIMIT];
-    let mut code = [NO_INSTRUCTION; CODE_LIMIT];
+    let mut tokens = [Token::default(); TOKEN_LIMIT];
+    let mut code = [Instruction::default(); CODE_LIMIT];
     let mut engine = Engine::new();
     print_go(rt, engine.go(&code, board, FEW))?;
     print_load(rt, engine.load(SCRIPT, &mut tokens, &mut code))?;
@@ -84,21 +69,19 @@ fn drive<B: Board>(rt: &HostRuntime, board: &mut B) -> io::Result<()> {
     print_reports(rt, board)
 }
 
-fn run(rt: &HostRuntime) -> Result<(), Fault> {
-    let bytes = picture();
-    let frame = Frame::new(4, 3, &bytes, 4)?;
-    let mut part = Crop::new(frame, MIDDLE)?;
-    drive(rt, &mut part)?;
-    Ok(())
+// The part of the picture that the script measures.
+fn part<'a>(bytes: &'a [u8]) -> Result<Crop<Frame<'a>>, Refusal> {
+    let frame = Frame::new(4, 3, bytes, 4)?;
+    Ok(Crop::new(frame, MIDDLE)?)
 }
 
 fn main(rt: HostRuntime) -> io::Result<()> {
-    match run(&rt) {
-        Ok(()) => Ok(()),
-        Err(Fault::Output(error)) => Err(error),
-        Err(Fault::Refused(refusal)) => {
-            let number = refusal.reason.number();
-            println!(rt; "refused {number}")
+    let bytes = picture();
+    match part(&bytes) {
+        Ok(mut part) => drive(&rt, &mut part),
+        Err(refusal) => {
+            let reason = refusal.reason;
+            println!(rt; "refused {reason}")
         }
     }
 }

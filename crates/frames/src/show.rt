@@ -1,6 +1,6 @@
 // A line for each answer.
 use boards::Board;
-use machine::{Answer, Ending};
+use machine::Answer;
 use refusal::Refusal;
 use std::io;
 use translator::Counts;
@@ -25,11 +25,14 @@ pub(crate) fn print_rewind(rt: &HostRuntime, answer: Result<(), Refusal>) -> io:
 pub(crate) fn print_go(rt: &HostRuntime, answer: Result<Answer, Refusal>) -> io::Result<()> {
     match answer {
         Ok(answer) => {
-            let name = name_of(answer.ending);
-            let value = answer.ending.value();
-            let place = answer.place;
-            let spent = answer.spent;
-            println!(rt; "go: {name} {value} at {place}, {spent} ticks")
+            let Answer {
+                ending,
+                place,
+                spent,
+                ..
+            } = answer;
+            let value = ending.value();
+            println!(rt; "go: {ending} {value} at {place}, {spent} ticks")
         }
         Err(refusal) => print_refusal(rt, "go", refusal),
     }
@@ -37,27 +40,13 @@ pub(crate) fn print_go(rt: &HostRuntime, answer: Result<Answer, Refusal>) -> io:
 
 // Every report that the board kept, in order.
 pub(crate) fn print_reports<B: Board>(rt: &HostRuntime, board: &mut B) -> io::Result<()> {
-    for k in 0..usize::MAX {
-        let Some(report) = board.kept(k) else {
-            return Ok(());
-        };
+    for report in (0..usize::MAX).map_while(|k| board.kept(k)) {
         println!(rt; "report: {report}")?;
     }
     Ok(())
 }
 
-fn name_of(ending: Ending) -> &'static str {
-    match ending {
-        Ending::Returned(_) => "returned",
-        Ending::Waiting => "waiting",
-        Ending::Divided => "divided",
-        Ending::Board(_) => "board",
-        Ending::Broken => "broken",
-    }
-}
-
 fn print_refusal(rt: &HostRuntime, call: &str, refusal: Refusal) -> io::Result<()> {
-    let number = refusal.reason.number();
-    let place = refusal.place;
-    println!(rt; "{call}: refused {number} at {place}")
+    let Refusal { reason, place } = refusal;
+    println!(rt; "{call}: refused {reason} at {place}")
 }

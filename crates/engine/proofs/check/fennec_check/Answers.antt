@@ -14,4 +14,4 @@ returns-in-Ok c =
 pub returns-in-Err : goal.returns-in-Err
 returns-in-Err c =
     let t = c.in-Err.ensures in
-    record { answer = check_fails c.args.source.now _ _ t.answer.1 c.number.result c.number.ensures; only = t.only }
+    rw c.from.ensures (record { answer = check_fails c.args.source.now _ _ t.answer.1 c.number.result c.number.ensures; only = t.only })

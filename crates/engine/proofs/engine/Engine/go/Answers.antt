@@ -18,4 +18,4 @@ returns g c =
     let d =
     go_accepted (holds c.args.self.now) c.args.code.now (g.B.Board.meaning c.args.board.now) c.args.ticks
     c.in_ok-count.count c.in_ok-count.ensures _ _ _ r.answer r.after r.board in
-    record { does = d; law = lawful _ (go c.args.ticks) _ _ (d, refl) }
+    rw c.from.ensures (record { does = d; law = lawful _ (go c.args.ticks) _ _ (d, refl) })
