@@ -40,7 +40,6 @@ impl<'a> Tile<'a> {
     fn line_sum(&self, y: u8) -> u16
         ensures { result ≡ line_sum self.now.bytes.now self.now.grid.columns self.now.number y }
     {
-        // A slice, since `skip` takes each byte before the line one by one.
         let start = self.line_start(y).min(self.bytes.len());
         let line = self.bytes[start..].iter().take(SIDE);
         line.map(|&byte| u16::from(byte)).sum()

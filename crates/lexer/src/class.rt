@@ -21,6 +21,7 @@ pub(crate) enum Class {
 pub(crate) fn class_of(b: u8) -> Class
     ensures { result ≡ class_of b }
 {
+    // Tried: `usize::from(b)`; the answer that carries the rule of the whole table to each byte no longer fits.
     CLASSES[b as usize]
 }
 

@@ -65,6 +65,7 @@ fn value_of(digits: &[u8], base: u64) -> u64
     requires { (0 < base) × (base ≤ 16) }
     ensures { result ≡ min 2147483648 (value_of base digits.now) }
 {
+    // Tried: `fold`; its closure does not know how large the number is that it is given.
     let mut value: u64 = 0;
     for d in digits {
         value = (value * base + digit_value(*d)).min(GREATEST + 1);
@@ -146,7 +147,7 @@ fn character(rest: &[u8]) -> Result<Scanned, Reason>
 {
     match rest {
         [_, b'\\', c, b'\'', ..] => {
-            let value = escape(*c as char)? as u32;
+            let value = u32::from(escape(char::from(*c))?);
             Ok(Scanned {
                 kind: Kind::Character,
                 length: 4,
@@ -157,7 +158,7 @@ fn character(rest: &[u8]) -> Result<Scanned, Reason>
             Ok(Scanned {
                 kind: Kind::Character,
                 length: 3,
-                value: *c as u32,
+                value: u32::from(*c),
             })
         }
         _ => Err(Reason::BadCharacter),

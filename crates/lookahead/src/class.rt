@@ -44,6 +44,9 @@ fn start_of(kind: Option<Kind>) -> Option<Start>
     }
 }
 
+// The looseness of the operator that binds most loosely.
+pub const LOOSEST: u32 = 6;
+
 fn looseness_of(kind: Option<Kind>) -> Option<u32>
     ensures { result ≡ looseness_of kind }
 {

@@ -32,6 +32,7 @@ impl<'a> Text<'a> {
         ensures inside { result ≡ true → at < length self.now.tokens.now }
     {
         if self.is_at(at, Kind::Name) {
+            // Tried: `bytes_at`; the check does not find that its answer is the name of this token.
             let token = self.tokens[at];
             part(self.source, token.place as usize, token.length as usize) == b"main".as_slice()
         } else {
@@ -47,6 +48,6 @@ impl<'a> Text<'a> {
         let begins = self.is_at(start, Kind::Int)
             && self.is_main(start + 1)
             && self.is_at(start + 2, Kind::OpenParen);
-        if begins { Some(start + 3) } else { None }
+        begins.then(|| start + 3)
     }
 }

@@ -5,6 +5,6 @@ mod class;
 mod head;
 mod text;
 
-pub use class::{Lead, Start};
+pub use class::{LOOSEST, Lead, Start};
 pub use head::part;
 pub use text::Text;

@@ -5,10 +5,7 @@ ghost use Rattle.parser.specs.Steps.{Reads, operands, an_operand, an_expression,
 use crate::cursor::Cursor;
 use crate::fault::Fault;
 use lexer::Kind;
-use lookahead::Start;
-
-// The looseness of the operator that binds most loosely.
-const LOOSEST: u32 = 6;
+use lookahead::{LOOSEST, Start};
 
 impl<'a> Cursor<'a> {
     // An expression at the depth.
