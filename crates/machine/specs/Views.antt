@@ -1,5 +1,5 @@
 -- What the machine's parts stand for.
-use Rattle.std.specs.Prelude.{◌≡◌, ℕ, zero, suc, ◌+◌, ◌-◌, ◌<◌, List, [], ◌∷◌, ℤ, pos, Some, None, Option, Ok, Err, Result, slice_index_or}
+use Rattle.std.specs.Prelude.{◌≡◌, ℕ, zero, suc, ◌+◌, ◌-◌, ◌<◌, ◌≤◌, List, [], ◌∷◌, ℤ, pos, Some, None, Option, Ok, Err, Result, slice_index_or}
 use Rattle.std.specs.declared.ops.ControlFlow.{ControlFlow}
 use Rattle.std.specs.declared.ops.ControlFlow.TheVariants.{Continue, Break}
 use Rattle.boards.specs.Meaning.{Meaning}
@@ -81,6 +81,11 @@ pub record Put (v : ℤ) (old : Memory) (from : Cursor) (new : Memory) (to : Cur
   pub cells : new.cells ≡ old.cells
   pub stack : tops new.values to.height ≡ v ∷ tops old.values from.height
   pub level : Level from to
+
+-- the index of a cell; a number that no cell has is a fault
+abbrev pub Indexed : ℤ → Result ℕ Stop → Type 0
+Indexed cell (Ok i) = (cell ≡ pos i) × (i < 64)
+Indexed cell (Err s) = ((i : ℕ) → cell ≡ pos i → 64 ≤ i) × (s ≡ Breaks)
 
 -- an instruction did what an operation does
 abbrev pub Moves : Did → (old new : Cursor) → Memory → Result (Unit {0}) Stop → Type 0

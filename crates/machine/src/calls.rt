@@ -89,11 +89,7 @@ impl Machine {
         match self.memory.step(records, &mut next, board) {
             Ok(()) => ControlFlow::Continue(self.move_on(next, ticks)),
             Err(stop) => {
-                let halted = Halted {
-                    stop,
-                    at: from,
-                    counted: self.counted.saturating_add(stop.counts()),
-                };
+                let halted = Halted::new(stop, from, from.position, self.counted);
                 ControlFlow::Break(self.settle(records, halted, ticks))
             }
         }

@@ -25,7 +25,7 @@ impl Ending {
     {
         match self {
             Ending::Returned(v) => v,
-            Ending::Board(reason) => reason.number() as i32,
+            Ending::Board(reason) => i32::from(reason.number()),
             Ending::Waiting | Ending::Divided | Ending::Broken => 0,
         }
     }

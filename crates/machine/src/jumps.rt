@@ -27,10 +27,10 @@ impl Cursor {
     pub(crate) fn jump(&mut self, code: &[Instruction], from: usize, to: i32) -> Result<(), Stop>
         ensures { (m : MemoryType) (height : ℕ) (b : Meaning) → let u = at (store_of m height) from self.old.left b in next_of result u (state_of m self.new b) ≡ jumped code.now to (tops m.values self.old.height) u }
     {
-        if to < 0 || !may_land(code, from, to as usize) {
-            return Err(Stop::Breaks);
-        }
-        self.position = to as usize;
+        self.position = usize::try_from(to)
+            .ok()
+            .filter(|to| may_land(code, from, *to))
+            .ok_or(Stop::Breaks)?;
         Ok(())
     }
 

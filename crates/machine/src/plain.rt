@@ -1,13 +1,23 @@
 // The instructions that work on cells and values alone.
 ghost use Rattle.machine.specs.Codes.{push, load, store, discard, binary, unary, give};
 ghost use Rattle.machine.specs.Operations.{exec};
-ghost use Rattle.machine.specs.Views.{store_of, Moves};
+ghost use Rattle.machine.specs.Views.{store_of, Indexed, Moves};
 
 use crate::cursor::Cursor;
 use crate::ending::Ending;
 use crate::memory::Memory;
 use crate::stop::Stop;
 use ints::{Operator, Unary};
+
+// The index of a cell, where there is one.
+fn index_of(cell: i32) -> Result<usize, Stop>
+    ensures { Indexed cell result }
+{
+    usize::try_from(cell)
+        .ok()
+        .filter(|index| *index < 64)
+        .ok_or(Stop::Breaks)
+}
 
 impl Memory {
     pub(crate) fn push(&mut self, at: &mut Cursor, v: i32) -> Result<(), Stop>
@@ -23,19 +33,15 @@ impl Memory {
     pub(crate) fn load(&mut self, at: &mut Cursor, cell: i32) -> Result<(), Stop>
         ensures { Moves (exec (load cell) (store_of self.old at.old.height)) at.old at.new self.new result }
     {
-        if cell < 0 || cell >= 64 {
-            return Err(Stop::Breaks);
-        }
-        self.push(at, self.cells[cell as usize])
+        let index = index_of(cell)?;
+        self.push(at, self.cells[index])
     }
 
     pub(crate) fn store(&mut self, at: &mut Cursor, cell: i32) -> Result<(), Stop>
         ensures { Moves (exec (store cell) (store_of self.old at.old.height)) at.old at.new self.new result }
     {
-        if cell < 0 || cell >= 64 {
-            return Err(Stop::Breaks);
-        }
-        self.cells[cell as usize] = self.pop(at)?;
+        let index = index_of(cell)?;
+        self.cells[index] = self.pop(at)?;
         Ok(())
     }
 

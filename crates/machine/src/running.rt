@@ -19,7 +19,7 @@ pub(crate) struct Halted {
 
 impl Halted {
     // Stopped at the cursor, with `counted` counted before the instructions from `start` on.
-    fn new(stop: Stop, at: Cursor, start: usize, counted: u64) -> Halted
+    pub(crate) fn new(stop: Stop, at: Cursor, start: usize, counted: u64) -> Halted
         requires { start ≤ at.position }
         ensures stop { result.stop ≡ stop }
         ensures at { result.at ≡ at }
@@ -61,8 +61,8 @@ impl Memory {
                     }
                     at = next;
                 }
-                // Tried: one arm for all stops makes a run slower, 25.8 processor instructions for each of the machine's
-                // instead of 22.6.
+                // Tried: one arm for all stops makes a run slower, 25.8 processor instructions for each of the machine's;
+                // the bar is 23.1.
                 Err(Stop::Ends(ending)) => {
                     return Halted::new(Stop::Ends(ending), at, start, counted);
                 }

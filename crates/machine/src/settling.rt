@@ -1,9 +1,9 @@
 // What a machine keeps of a run, and answers.
-ghost use Rattle.std.specs.Prelude.{◌≡◌, ◌≤◌};
+ghost use Rattle.std.specs.Prelude.{◌≡◌, ◌≤◌, ◌+◌, ◌-◌};
 ghost use Rattle.machine.specs.Codes.{place_at};
 ghost use Rattle.machine.specs.Endings.{end_of};
 ghost use Rattle.boards.specs.Meaning.{Meaning};
-ghost use Rattle.machine.specs.Runs.{kept_at};
+ghost use Rattle.machine.specs.Runs.{kept_at, up_to};
 ghost use Rattle.machine.specs.Views.{state_of, over_of, keeps, said_of, Begun, Settled, settled};
 
 use crate::answer::{Answer, Ended};
@@ -45,9 +45,24 @@ impl Machine {
             None => ControlFlow::Continue(Cursor {
                 position: self.position,
                 height: self.height,
-                left: ticks as u64,
+                left: u64::from(ticks),
             }),
         }
+    }
+
+    // Keeps where a run stands, and the ticks that it spent of `ticks`.
+    fn stand(&mut self, at: Cursor, ticks: u32)
+        requires { at.left ≤ ticks }
+        ensures memory { self.new.memory ≡ self.old.memory }
+        ensures position { self.new.position ≡ at.position }
+        ensures height { self.new.height ≡ at.height }
+        ensures spent { self.new.spent ≡ up_to (self.old.spent + (ticks - at.left)) }
+        ensures counted { self.new.counted ≡ self.old.counted }
+        ensures over { self.new.over ≡ self.old.over }
+    {
+        self.position = at.position;
+        self.height = at.height;
+        self.spent = self.spent.saturating_add(u64::from(ticks) - at.left);
     }
 
     // Keeps where a run stands, and answers how it came out.
@@ -56,9 +71,7 @@ impl Machine {
         ensures { Settled (settled self.old code.now halted ticks) result self.new }
     {
         let place = place_at(code, halted.at.position);
-        self.position = halted.at.position;
-        self.height = halted.at.height;
-        self.spent = self.spent.saturating_add(ticks as u64 - halted.at.left);
+        self.stand(halted.at, ticks);
         self.counted = halted.counted;
         match halted.stop {
             Stop::Waits => {
@@ -85,9 +98,7 @@ impl Machine {
         ensures left { result ≡ at.left }
         ensures after { (b : Meaning) → keeps self.new ≡ kept_at (keeps self.old) ticks (state_of self.old.memory at b) 1 (over_of self.old.over) }
     {
-        self.position = at.position;
-        self.height = at.height;
-        self.spent = self.spent.saturating_add(ticks as u64 - at.left);
+        self.stand(at, ticks);
         self.counted = self.counted.saturating_add(1);
         at.left as u32
     }

@@ -9,6 +9,7 @@ use small::Small;
 use std::io;
 use std::ops::ControlFlow;
 
+// Instructions are written by number, because numbers that no instruction has are tried too.
 fn at(code: i32, operand: i32, place: i32) -> Instruction {
     Instruction {
         code,

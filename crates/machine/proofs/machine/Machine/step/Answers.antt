@@ -1,4 +1,5 @@
 use Rattle.std.proofs.Common.{sym, ap, ◌∙◌, arith}
+use Rattle.machine.specs.declared.cursor.Cursor.{Cursor}
 use Rattle.machine.specs.Steps.{step}
 use Rattle.machine.specs.Runs.{kept_at, on, turn}
 use Rattle.machine.specs.Views.{over_of, keeps, state_of}
@@ -15,7 +16,9 @@ move_on-requires g c =
 pub settle-requires : goal.settle-requires
 settle-requires g c =
     let h = c.in_ok-from.ensures in
-    omega (arith, h.3)
+    let n = c.new-halted.ensures in
+    let e = ap (λ (a : Cursor). a.left) n.at ∙ h.3 in
+    omega (arith, e)
 
 pub returns-in-Ok : goal.returns-in-Ok
 returns-in-Ok g c =
