@@ -31,7 +31,7 @@ use Rattle.translator.specs.Translation.{code_limit}
 use Rattle.translator.specs.Code.{Placed, coded, Emits, Pushes}
 use Rattle.translator.specs.Look.{LiteralOf, ScalarOf}
 use Rattle.translator.specs.Names.{scope_of, return_of, types_of, Enters, DefinesAs, DeclaresAs}
-use Rattle.translator.specs.declared.script.Parameter as Bracketed
+use Rattle.translator.specs.declared.typed.Parameter as Bracketed
 use Rattle.translator.specs.Scripts.{GivenBy, TakenAt, ItemAt, Declared, ItemsDone, TranslatesExtern, TranslatesGlobal, TranslatesItem, ItemsAt, AllDone, ItemsOn}
 use Rattle.translator.proofs.Lexemes.{inside, token_is, next_is, seen-sign}
 use Rattle.translator.proofs.Records.{stacked_more}

@@ -19,54 +19,66 @@ use Rattle.translator.specs.declared.name.Callee.TheVariants as C
 use Rattle.translator.specs.declared.name.Name.{Name}
 use Rattle.translator.specs.Names.{callee_of, callable_of, Says, Finds, FoundIs, CalleeIs, return_of, types_of, is_int, is_none, fitting}
 
--- what is told of a name that another is, at another's place
-module _ (Γ : Scope) (y : List ℕ) (x : Ident) (p : ℕ) (b : y ≡ x.bytes) (q : p ≡ x.place) where
-  pub absent_variable : lookup y Γ ≡ absent → as_variable (lookup x.bytes Γ) x.place ≡ refused 13 p
+-- what is told of a name, at another's place
+module _ (Γ : Scope) (x : Ident) (p : ℕ) (q : p ≡ x.place) where
+  pub absent_variable : lookup x.bytes Γ ≡ absent → as_variable (lookup x.bytes Γ) x.place ≡ refused 13 p
   unfolding as_variable
-  absent_variable h = rw (sym b, sym q, h) refl
+  absent_variable h = rw (sym q, h) refl
 
-  pub absent_callee : lookup y Γ ≡ absent → as_callee (lookup x.bytes Γ) x.place ≡ refused 13 p
+  pub absent_callee : lookup x.bytes Γ ≡ absent → as_callee (lookup x.bytes Γ) x.place ≡ refused 13 p
   unfolding as_callee
-  absent_callee h = rw (sym b, sym q, h) refl
+  absent_callee h = rw (sym q, h) refl
 
-  pub a_variable_is : (e : Entry) (t : Scalar) (c m : ℕ) → e ≡ Variable t → Says e y Γ c → m ≡ c → (lookup x.bytes Γ ≡ a_variable t) × (m ≡ cell_of x.bytes Γ)
-  a_variable_is e t c m k h g = let s : Says (Variable t) y Γ c = rw k at h in rw (sym b) (s.0, g ∙ sym s.1)
-
-  pub no_variable : (e : Entry) (c : ℕ) → ((t : Scalar) → e ≡ Variable t → ⊥) → Says e y Γ c → as_variable (lookup x.bytes Γ) x.place ≡ refused 14 p
+  pub no_variable : (e : Entry) (c : ℕ) → ((t : Scalar) → e ≡ Variable t → ⊥) → Says e x.bytes Γ c → as_variable (lookup x.bytes Γ) x.place ≡ refused 14 p
   unfolding as_variable
   no_variable Level c n h = absurd h
   no_variable (Variable t) c n h = absurd (n t refl)
   no_variable Stop c n h = absurd h
-  no_variable (Function f) c n h = rw (sym b, sym q, h) refl
+  no_variable (Function f) c n h = rw (sym q, h) refl
 
-  a_callee_is : (f : Callee) → lookup y Γ ≡ a_function f → as_callee (a_function f) p ≡ accepted f → (lookup x.bytes Γ ≡ a_function f) × (as_callee (lookup x.bytes Γ) x.place ≡ accepted f)
-  a_callee_is f h e = rw (sym b, sym q) (h, rw h e)
-
-  pub a_function_is : (e : Entry) (c : ℕ) (f : Listed.Callee) → Some f ≡ callable_of e → Says e y Γ c
-      → (lookup x.bytes Γ ≡ a_function (callee_of f)) × (as_callee (lookup x.bytes Γ) x.place ≡ accepted (callee_of f))
-  unfolding as_callee
-  a_function_is Level c f e h = absurd h
-  a_function_is (Variable t) c f e h = let z : ◌≡◌ {A = ℕ} 0 1 = cc in absurd (omega arith)
-  a_function_is Stop c f e h = absurd h
-  a_function_is (Function C.Zone) c f e h = let k : f ≡ C.Zone = cc in rw k (a_callee_is Scopes.zone h refl)
-  a_function_is (Function C.Columns) c f e h = let k : f ≡ C.Columns = cc in rw k (a_callee_is Scopes.columns h refl)
-  a_function_is (Function C.Rows) c f e h = let k : f ≡ C.Rows = cc in rw k (a_callee_is Scopes.rows h refl)
-  a_function_is (Function C.Report) c f e h = let k : f ≡ C.Report = cc in rw k (a_callee_is Scopes.report h refl)
-  a_function_is (Function C.Main) c f e h = let z : ◌≡◌ {A = ℕ} 0 1 = cc in absurd (omega arith)
-
-  pub no_callee : (e : Entry) (c : ℕ) → None ≡ callable_of e → Says e y Γ c → as_callee (lookup x.bytes Γ) x.place ≡ refused 14 p
+  no_callee : (e : Entry) (c : ℕ) → None ≡ callable_of e → Says e x.bytes Γ c → as_callee (lookup x.bytes Γ) x.place ≡ refused 14 p
   unfolding as_callee
   no_callee Level c e h = absurd h
-  no_callee (Variable t) c e h = rw (sym b, sym q, h.0) refl
+  no_callee (Variable t) c e h = rw (sym q, h.0) refl
   no_callee Stop c e h = absurd h
   no_callee (Function C.Zone) c e h = let z : ◌≡◌ {A = ℕ} 0 1 = cc in absurd (omega arith)
   no_callee (Function C.Columns) c e h = let z : ◌≡◌ {A = ℕ} 0 1 = cc in absurd (omega arith)
   no_callee (Function C.Rows) c e h = let z : ◌≡◌ {A = ℕ} 0 1 = cc in absurd (omega arith)
   no_callee (Function C.Report) c e h = let z : ◌≡◌ {A = ℕ} 0 1 = cc in absurd (omega arith)
-  no_callee (Function C.Main) c e h = rw (sym b, sym q, h) refl
+  no_callee (Function C.Main) c e h = rw (sym q, h) refl
 
-  -- A name that is defined or declared.
+pub a_variable_is : (Γ : Scope) (x : List ℕ) (e : Entry) (t : Scalar) (c m : ℕ) → e ≡ Variable t → Says e x Γ c → m ≡ c → (lookup x Γ ≡ a_variable t) × (m ≡ cell_of x Γ)
+a_variable_is Γ x e t c m k h g = let s : Says (Variable t) x Γ c = rw k at h in (s.0, g ∙ sym s.1)
 
+a_callee_is : (Γ : Scope) (x : List ℕ) (p : ℕ) (f : Callee) → lookup x Γ ≡ a_function f → as_callee (a_function f) p ≡ accepted f → (lookup x Γ ≡ a_function f) × (as_callee (lookup x Γ) p ≡ accepted f)
+a_callee_is Γ x p f h e = (h, rw h e)
+
+a_function_is : (Γ : Scope) (x : List ℕ) (p : ℕ) (e : Entry) (c : ℕ) (f : Listed.Callee) → Some f ≡ callable_of e → Says e x Γ c
+    → (lookup x Γ ≡ a_function (callee_of f)) × (as_callee (lookup x Γ) p ≡ accepted (callee_of f))
+unfolding as_callee
+a_function_is Γ x p Level c f e h = absurd h
+a_function_is Γ x p (Variable t) c f e h = let z : ◌≡◌ {A = ℕ} 0 1 = cc in absurd (omega arith)
+a_function_is Γ x p Stop c f e h = absurd h
+a_function_is Γ x p (Function C.Zone) c f e h = let k : f ≡ C.Zone = cc in rw k (a_callee_is Γ x p Scopes.zone h refl)
+a_function_is Γ x p (Function C.Columns) c f e h = let k : f ≡ C.Columns = cc in rw k (a_callee_is Γ x p Scopes.columns h refl)
+a_function_is Γ x p (Function C.Rows) c f e h = let k : f ≡ C.Rows = cc in rw k (a_callee_is Γ x p Scopes.rows h refl)
+a_function_is Γ x p (Function C.Report) c f e h = let k : f ≡ C.Report = cc in rw k (a_callee_is Γ x p Scopes.report h refl)
+a_function_is Γ x p (Function C.Main) c f e h = let z : ◌≡◌ {A = ℕ} 0 1 = cc in absurd (omega arith)
+
+-- what is found of a name, or the fault of one that is absent
+pub found_as : (s : List ℕ) (ns : List Name) (y : List ℕ) (x : Ident) (o : Option (ℕ × Entry)) (f : Refusal) → y ≡ x.bytes → number_of f.reason ≡ 13 → f.place ≡ x.place
+    → Finds s ns y o → FoundIs s ns x.bytes x.place (ok_or o f)
+found_as s ns y x None f b n q h = (rw b at h, n, q)
+found_as s ns y x (Some r) f b n q h = rw b at h
+
+-- the function that a record found stands for, or the fault of one that cannot be called
+pub callee_as : (Γ : Scope) (x : Ident) (e : Entry) (c : ℕ) (o : Option Listed.Callee) (f : Refusal) → o ≡ callable_of e → number_of f.reason ≡ 14 → f.place ≡ x.place
+    → Says e x.bytes Γ c → CalleeIs Γ x.bytes x.place (ok_or o f)
+callee_as Γ x e c None f k n q h = rw n (no_callee Γ x f.place q e c k h)
+callee_as Γ x e c (Some g) f k n q h = a_function_is Γ x.bytes x.place e c g k h
+
+-- A name that is defined or declared, which another is, at another's place.
+module _ (Γ : Scope) (y : List ℕ) (x : Ident) (p : ℕ) (b : y ≡ x.bytes) (q : p ≡ x.place) where
   pub defined_twice : (t : Scalar) → true ≡ defined_here y Γ → defined x t Γ ≡ refused 12 p
   unfolding defined then needs
   defined_twice t h = rw (sym b, sym h, q) refl
@@ -90,18 +102,6 @@ module _ (Γ : Scope) (y : List ℕ) (x : Ident) (p : ℕ) (b : y ≡ x.bytes) (
   pub declared_new : (f : Callee) → false ≡ defined_here y Γ → declared x (Some f) Γ ≡ accepted (Scopes.function f ∷ Γ)
   unfolding declared then needs
   declared_new f h = rw (sym b, sym h) refl
-
--- what is found of a name, or the fault of one that is absent
-pub found_as : (s : List ℕ) (ns : List Name) (y : List ℕ) (x : Ident) (o : Option (ℕ × Entry)) (f : Refusal) → y ≡ x.bytes → number_of f.reason ≡ 13 → f.place ≡ x.place
-    → Finds s ns y o → FoundIs s ns x.bytes x.place (ok_or o f)
-found_as s ns y x None f b n q h = (rw b at h, n, q)
-found_as s ns y x (Some r) f b n q h = rw b at h
-
--- the function that a record found stands for, or the fault of one that cannot be called
-pub callee_as : (Γ : Scope) (x : Ident) (e : Entry) (c : ℕ) (o : Option Listed.Callee) (f : Refusal) → o ≡ callable_of e → number_of f.reason ≡ 14 → f.place ≡ x.place
-    → Says e x.bytes Γ c → CalleeIs Γ x.bytes x.place (ok_or o f)
-callee_as Γ x e c None f k n q h = rw n (no_callee Γ x.bytes x f.place refl q e c k h)
-callee_as Γ x e c (Some g) f k n q h = a_function_is Γ x.bytes x x.place refl refl e c g k h
 
 -- The types of a function, one by one.
 

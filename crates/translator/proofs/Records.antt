@@ -1,10 +1,11 @@
 -- The names that records put in force, one record after another.
-use Rattle.std.proofs.Common.{◌≡◌, ℕ, zero, suc, ◌+◌, ◌-◌, ◌<◌, ◌≤◌, get_or, Bool, true, false, cond, ltb, List, [], ◌∷◌, ◌++◌, length, take, count_by, Some, None, Decides, sym, refl, ap, ◌∙◌, arith, lt-ltb}
+use Rattle.std.proofs.Common.{◌≡◌, ℕ, zero, suc, ◌+◌, ◌-◌, ◌<◌, ◌≤◌, get_or, Bool, true, false, cond, ◌||◌, ltb, List, [], ◌∷◌, ◌++◌, length, take, count_by, Some, None, Decides, sym, refl, ap, ◌∙◌, arith, lt-ltb}
 use Rattle.std.proofs.lemmas.Slice.Eq.{IsBytesEq, compares_Decides}
-use Rattle.std.proofs.lemmas.List.{nil_from_length, take_all, take_more}
+use Rattle.std.proofs.lemmas.List.{reverse-append, reverse-reverse, take_all, take_more}
 use Rattle.std.proofs.lemmas.Bool.Decides.{same_from_decides}
 use Rattle.std.proofs.lemmas.List.Sums.{length-filter, sum_by-cons}
-use Rattle.std.specs.List.{filter, push}
+use Rattle.std.specs.List.{filter, list_any, prefix_len}
+use mathlib.Core.List.{reverse}
 use Rattle.meaning.specs.declared.operator.Scalar.{Scalar}
 use Rattle.meaning.specs.Check.{Scope}
 use Rattle.meaning.specs.Scopes.{same_name, lookup, defined_here, cells}
@@ -99,45 +100,41 @@ module _ (s : List ℕ) (ns : List Name) (x : List ℕ) (d : Name) where
 
 -- The newest level, searched for a definition.
 
-here_level : (x : List ℕ) (e : Entry) (y : List ℕ) (Γ : Scope) → e ≡ Level → defined_here x (entry_as e y ∷ Γ) ≡ false
+-- whether a record of a kind begins no level
+abbrev pub opens_none : Entry → Bool
+opens_none Level = false
+opens_none (Variable t) = true
+opens_none Stop = true
+opens_none (Function f) = true
+
+-- the records of the newest level, the newest first
+abbrev pub level_of : List Name → List Name
+level_of ns = take (prefix_len (λ (n : Name). opens_none n.entry) ns) ns
+
+here_next : (x y : List ℕ) (e : Entry) (Γ : Scope) (b : Bool) → b ≡ defined_here x Γ → cond (opens_none e) (defining x (entry_as e y) || b) false ≡ defined_here x (entry_as e y ∷ Γ)
 unfolding defined_here
-here_level x e y Γ h = rw h refl
+here_next x y Level Γ b h = refl
+here_next x y (Variable t) Γ b h = rw h refl
+here_next x y Stop Γ b h = h
+here_next x y (Function f) Γ b h = rw h refl
 
-here_found : (x : List ℕ) (e : Scopes.Entry Scalar) (Γ : Scope) → defining x e ≡ true → defined_here x (e ∷ Γ) ≡ true
-unfolding defined_here
-here_found x Scopes.level Γ h = let z : ◌≡◌ {A = ℕ} 0 1 = cc in absurd (omega arith)
-here_found x (Scopes.variable y t) Γ h = rw h refl
-here_found x (Scopes.stop t) Γ h = let z : ◌≡◌ {A = ℕ} 0 1 = cc in absurd (omega arith)
-here_found x (Scopes.function f) Γ h = rw h refl
+level_next : (p : Name → Bool) (n : Name) (ns : List Name) (b : Bool) → b ≡ opens_none n.entry
+    → list_any p (level_of (n ∷ ns)) ≡ cond b (p n || list_any p (level_of ns)) false
+level_next p n ns true h =
+    let m = prefix_len (λ (k : Name). opens_none k.entry) ns in
+    let e : 1 + m ≡ suc m = omega arith in
+    rw (sym h) (ap (λ (k : ℕ). list_any p (take k (n ∷ ns))) e)
+level_next p n ns false h = rw (sym h) refl
 
-here_past : (x : List ℕ) (e : Entry) (y : List ℕ) (Γ : Scope) → (e ≡ Level → ⊥) → defining x (entry_as e y) ≡ false → defined_here x (entry_as e y ∷ Γ) ≡ defined_here x Γ
-unfolding defined_here
-here_past x Level y Γ l h = absurd (l refl)
-here_past x (Variable t) y Γ l h = rw h refl
-here_past x Stop y Γ l h = refl
-here_past x (Function f) y Γ l h = rw h refl
+here_reversed : (s x : List ℕ) (ns : List Name) → list_any (λ n. defining x (entry_of s n)) (level_of ns) ≡ defined_here x (scope_of s (reverse ns))
+unfolding stacked defined_here
+here_reversed s x [] = refl
+here_reversed s x (n ∷ ns) =
+    level_next (λ n. defining x (entry_of s n)) n ns _ refl ∙ here_next x _ n.entry _ _ (here_reversed s x ns) ∙ ap (defined_here x) (sym (stacked_more s (reverse ns) n []))
+    ∙ ap (λ (k : List Name). defined_here x (scope_of s k)) (sym (reverse-append (n ∷ []) ns))
 
-module _ (s : List ℕ) (ns : List Name) (x : List ℕ) where
-  -- the records after these neither define the name nor begin a level
-  abbrev pub Open : List Name → Type 0
-  Open ms = defined_here x (scope_of s ns) ≡ defined_here x (scope_of s ms)
-
-  pub open_all : (ms : List Name) → length ms ≡ 0 → Open ms → false ≡ defined_here x (scope_of s ns)
-  unfolding stacked defined_here
-  open_all ms e o = sym (o ∙ ap (λ (k : List Name). defined_here x (scope_of s k)) (nil_from_length ms e))
-
-  module _ (ms ls : List Name) (n : Name) (e : ms ≡ push ls n) (o : Open ms) where
-    newest : defined_here x (scope_of s ns) ≡ defined_here x (entry_of s n ∷ scope_of s ls)
-    newest = o ∙ ap (λ (k : List Name). defined_here x (scope_of s k)) e ∙ ap (defined_here x) (stacked_more s ls n [])
-
-    pub open_level : n.entry ≡ Level → false ≡ defined_here x (scope_of s ns)
-    open_level h = sym (newest ∙ here_level x n.entry _ _ h)
-
-    pub open_found : true ≡ defining x (entry_of s n) → true ≡ defined_here x (scope_of s ns)
-    open_found h = sym (newest ∙ here_found x (entry_of s n) _ (sym h))
-
-    pub open_more : (n.entry ≡ Level → ⊥) → false ≡ defining x (entry_of s n) → Open ls
-    open_more l h = newest ∙ here_past x n.entry _ _ l (sym h)
+pub here_level : (s x : List ℕ) (ns : List Name) → list_any (λ n. defining x (entry_of s n)) (level_of (reverse ns)) ≡ defined_here x (scope_of s ns)
+here_level s x ns = here_reversed s x (reverse ns) ∙ ap (λ (k : List Name). defined_here x (scope_of s k)) (reverse-reverse ns)
 
 -- Counting cells.
 

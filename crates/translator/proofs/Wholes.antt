@@ -1,5 +1,5 @@
 -- Whole expression statements: a call alone may give nothing, any other expression has a value.
-use Rattle.std.proofs.Common.{◌≡◌, ℕ, ◌+◌, ◌≤◌, Bool, true, false, not, ◌&&◌, ◌⊎◌, List, ◌∷◌, length, is_some, Some, None, Ok, Option, sym, refl, ap, ◌∙◌, subst, inl, inr, ⊎_elim, arith}
+use Rattle.std.proofs.Common.{◌≡◌, ℕ, ◌+◌, ◌≤◌, Bool, true, false, not, ◌&&◌, ◌⊎◌, List, ◌∷◌, length, drop, is_some, Some, None, Ok, Option, sym, refl, ap, ◌∙◌, subst, inl, inr, ⊎_elim, arith}
 use Rattle.refusal.specs.Told.{Told, accepted, refused}
 use Rattle.stacks.specs.Held.{Held}
 use Rattle.std.specs.List.{slice_get}
@@ -259,8 +259,8 @@ module _ (s : List ℕ) (ts : List Token) (at : ℕ) (Γ : Scope) (C : Held Inst
           let g = first_fault e Γ _ _ (ap (λ (y : Expr). type_of y Γ) b.first ∙ f) in
           valued_fault e Γ _ _ (call_longer z).valued g ∙ ap (refused 15) (sym (call_place s ts at Γ C b.name b.round b.list b.there t k))
 
-      abbrev pub operand_tails : (t : Scalar) → c.gives ≡ Some t → TailsAt 6 s ts (record { kind = t; end = c.end }) Γ D e
-      operand_tails t n =
+      abbrev pub operand_tails : (f : Typed) → c ≡ record { gives = Some f.kind; end = f.end } → TailsAt 6 s ts f Γ D e
+      operand_tails f n =
           record {
             rest = h.rest;
             code = h.code;
@@ -268,8 +268,8 @@ module _ (s : List ℕ) (ts : List Token) (at : ℕ) (Γ : Scope) (C : Held Inst
             few = h.few;
             grouped = h.grouped;
             ends = h.ends;
-            stands = d.1 ∙ b.rests;
-            typed = ap (λ (y : Expr). type_of y Γ) b.first ∙ call_gives b.name b.round b.list Γ t (d.0 ∙ rw n refl);
+            stands = ap (λ (k : Called). drop k.end (lexemes s ts)) (sym n) ∙ d.1 ∙ b.rests;
+            typed = ap (λ (y : Expr). type_of y Γ) b.first ∙ call_gives b.name b.round b.list Γ f.kind (d.0 ∙ ap (λ (k : Called). accepted (return_of k.gives)) n);
             begun = d.2 ∙ rw (b.codes, b.first) refl;
             room = h.room;
           }

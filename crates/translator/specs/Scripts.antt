@@ -25,7 +25,7 @@ use Rattle.translator.specs.Names.{scope_of, return_of, types_of}
 use Rattle.translator.specs.Expressions.{AllPlaced}
 use Rattle.translator.specs.declared.name.Name.{Name}
 use Rattle.translator.specs.declared.pending.Jump.{Jump}
-use Rattle.translator.specs.declared.script.Parameter as Bracketed
+use Rattle.translator.specs.declared.typed.Parameter as Bracketed
 
 -- what an extern gives, by the keyword
 abbrev pub GivenBy : Kind → Option Scalar → Type 0

@@ -19,6 +19,9 @@ use stacks::BoundedStack;
 // How many cells a script can use.
 const CELLS: usize = 64;
 
+// The most cells that a `for` finds in use: it takes two more.
+pub(crate) const CELLS_BEFORE_FOR: usize = CELLS - 2;
+
 // One more record, of no name in the source. There is room for the names of every script of so many tokens as are read.
 pub(crate) fn enter(names: &mut BoundedStack<Name>, entry: Entry)
     ensures { (s : List ℕ) → Enters s (seen names.old) (entry_as entry []) (seen names.new) }
@@ -76,19 +79,19 @@ fn has_types(callee: Callee, gives: Option<Scalar>, takes: Option<Scalar>) -> bo
 }
 
 // Whether an extern of that name, result and parameter declares the function.
-fn declares(callee: Callee, text: &[u8], gives: Option<Scalar>, takes: Option<Scalar>) -> bool
-    ensures { result ≡ declares text.now (return_of gives) (types_of takes) (callee_of callee) }
+fn declares(callee: Callee, word: &[u8], gives: Option<Scalar>, takes: Option<Scalar>) -> bool
+    ensures { result ≡ declares word.now (return_of gives) (types_of takes) (callee_of callee) }
 {
-    is_named(callee, text) && has_types(callee, gives, takes)
+    is_named(callee, word) && has_types(callee, gives, takes)
 }
 
 // The function that an extern of that name, result and parameter declares, if there is one.
-fn listed(text: &[u8], gives: Option<Scalar>, takes: Option<Scalar>) -> Option<Callee>
-    ensures { ListedAs text.now gives takes result }
+fn listed(word: &[u8], gives: Option<Scalar>, takes: Option<Scalar>) -> Option<Callee>
+    ensures { ListedAs word.now gives takes result }
 {
     [Callee::Zone, Callee::Columns, Callee::Rows, Callee::Report]
         .into_iter()
-        .find(|callee| declares(*callee, text, gives, takes))
+        .find(|callee| declares(*callee, word, gives, takes))
 }
 
 // The function that an extern declares comes into force; its name stands at `at`.

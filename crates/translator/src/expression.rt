@@ -1,5 +1,5 @@
 // Expressions: types and code.
-// What reads has a `within`: places are plain numbers, so how its end lies to its start is a fact of the call, not of a type.
+// `within`, and no cursor as in the parser: an answer is a place beside a type, of a text by reference, asked at an argument.
 ghost use Rattle.std.specs.Prelude.{◌≡◌, ℕ, ◌+◌, ◌<◌, ◌≤◌, true, List, length, IfOk, Ok};
 ghost use Rattle.translator.specs.Look.{call_seen};
 ghost use Rattle.stacks.specs.Held.{seen};
@@ -21,14 +21,11 @@ use crate::pending::PendingJump;
 use crate::scope::{callee_at, variable_at};
 use crate::typed::{Called, Given, Listed, Typed};
 use lexer::Kind;
-use lookahead::{Start, Text};
+use lookahead::{LOOSEST, Start, Text};
 use machine::{Instruction, Op};
 use meaning::{Operator, Scalar, result_type};
 use refusal::{Reason, Refusal};
 use stacks::BoundedStack;
-
-// The looseness of the operator that binds most loosely.
-pub(crate) const LOOSEST: u32 = 6;
 
 // The instruction of an operator that takes both operands from the stack, and perhaps one that mends its answer: the low
 // 8 bits of a char's, or the opposite.
@@ -244,7 +241,7 @@ fn operand(
 }
 
 // The fault of tokens that are no script's.
-fn unexpected(text: &Text, at: usize) -> Refusal {
+pub(crate) fn unexpected(text: &Text, at: usize) -> Refusal {
     Reason::UnexpectedToken.at(text.token_at(at).place)
 }
 
@@ -376,11 +373,8 @@ fn value_of_call(
     ensures same { (x : Ident) (q : ℕ × ℕ) (xs : Args) → TranslatesAs 0 text.now.source.now text.now.tokens.now at (seen names.now) (seen code.old) (seen code.new) (Tree.call x q xs) result }
 {
     let called = call(text, at, names, code)?;
-    match called.gives {
-        Some(kind) => Ok(Typed {
-            kind,
-            end: called.end,
-        }),
+    match called.value() {
+        Some(typed) => Ok(typed),
         None => Err(Reason::TypeMismatch.at(text.token_at(at).place)),
     }
 }
@@ -456,10 +450,7 @@ pub(crate) fn whole(
         return begun_by_call(text, at, names, code);
     }
     let typed = expression(text, at, names, code)?;
-    Ok(Called {
-        gives: Some(typed.kind),
-        end: typed.end,
-    })
+    Ok(typed.into())
 }
 
 // A whole expression statement that begins with a call.
@@ -477,16 +468,9 @@ fn begun_by_call(
     if text.is_at(called.end, Kind::Semicolon) {
         return Ok(called);
     }
-    let Some(kind) = called.gives else {
+    let Some(first) = called.value() else {
         return Err(Reason::TypeMismatch.at(text.token_at(at).place));
     };
-    let first = Typed {
-        kind,
-        end: called.end,
-    };
     let typed = continued(text, first, names, code, LOOSEST)?;
-    Ok(Called {
-        gives: Some(typed.kind),
-        end: typed.end,
-    })
+    Ok(typed.into())
 }

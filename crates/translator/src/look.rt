@@ -7,7 +7,7 @@ use lexer::{Kind, Token};
 use lookahead::Text;
 use meaning::{Operator, Scalar};
 
-// The grammar has passed the tokens, so each has what is asked for: `TryFrom` would have an error that no call can meet.
+// The grammar has passed the tokens, so each but `modifier_of` finds what is asked for: a `TryFrom` could not fail.
 
 // A constant: its type, and its value as the machine holds it.
 #[derive(Clone, Copy, PartialEq, Eq, Debug)]
@@ -63,16 +63,12 @@ fn operator_of(kind: Kind) -> Operator
 // The operator of this looseness that stands at `at`, if one does.
 pub(crate) fn operator_at(text: &Text, at: usize, looseness: u32) -> Option<Operator>
     ensures same { OperatorAt text.now.tokens.now at looseness result }
-    ensures inside { is_some result ≡ true → 0 < looseness → at < length text.now.tokens.now }
+    ensures inside { is_some result ≡ true → at < length text.now.tokens.now }
 {
-    if text.looseness_at(at)? == looseness {
-        Some(operator_of(text.token_at(at).kind))
-    } else {
-        None
-    }
+    (text.looseness_at(at)? == looseness).then_some(operator_of(text.token_at(at).kind))
 }
 
-// The operator of a modifier; none for a plain assignment.
+// The operator of a modifier. A plain assignment has none, which is no fault: an `Option`, and no `TryFrom`.
 pub(crate) fn modifier_of(kind: Kind) -> Option<Operator>
     ensures { ModifierOf kind result }
 {

@@ -75,6 +75,7 @@ impl PendingJump {
 }
 
 // Lands the jumps that were kept since there were `mark` of them: a `break` at `exit`, a `continue` at `next`.
+// It pops each as it lands it, so each is landed once; a slice from `mark` on would need that there are so many.
 pub(crate) fn land_all(
     jumps: &mut BoundedStack<Jump>,
     mark: usize,

@@ -55,15 +55,12 @@ fn find(source: &[u8], names: &BoundedStack<Name>, word: &[u8]) -> Option<(usize
 pub(crate) fn defined_here(source: &[u8], names: &BoundedStack<Name>, word: &[u8]) -> bool
     ensures { result ≡ defined_here word.now (scope_of source.now (seen names.now).held) }
 {
-    for name in names.as_slice().iter().rev() {
-        if name.entry == Entry::Level {
-            return false;
-        }
-        if defines(source, *name, word) {
-            return true;
-        }
-    }
-    false
+    names
+        .as_slice()
+        .iter()
+        .rev()
+        .take_while(|name| name.entry != Entry::Level)
+        .any(|name| defines(source, *name, word))
 }
 
 // How many cells the first `n` records have.

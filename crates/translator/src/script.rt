@@ -1,5 +1,5 @@
 // Scripts: externs and globals, then main. The grammar has passed the tokens.
-// What reads has a `within`: places are plain numbers, so how its end lies to its start is a fact of the call, not of a type.
+// `within`, and no cursor as in the parser: an answer is a place, perhaps with a type, of a text by reference, asked at one.
 ghost use Rattle.std.specs.Prelude.{◌<◌, ◌≤◌, length, IfOk};
 ghost use Rattle.stacks.specs.Held.{seen};
 ghost use Rattle.translator.specs.Scripts.{GivenBy, TakenAt, TranslatesExtern, TranslatesGlobal, TranslatesItem, TranslatesItems, TranslatesMain, TranslatesScript};
@@ -10,6 +10,7 @@ use crate::name::{Callee, Entry, Name};
 use crate::op::{emit, emit_constant};
 use crate::pending::land_all;
 use crate::scope::cells_in;
+use crate::typed::Parameter;
 use crate::work::Work;
 use lexer::Kind;
 use lookahead::Text;
@@ -18,14 +19,7 @@ use meaning::Scalar;
 use refusal::{Reason, Refusal};
 use stacks::BoundedStack;
 
-// What an extern takes, and the place in the tokens of the bracket that closes it.
-#[derive(Clone, Copy, PartialEq, Eq, Debug)]
-pub(crate) struct Parameter {
-    pub(crate) takes: Option<Scalar>,
-    pub(crate) close: usize,
-}
-
-// What an extern gives, by the keyword.
+// What an extern gives, by the keyword: `void` gives no type, so it is an `Option` and no `TryFrom`.
 fn given_by(kind: Kind) -> Option<Scalar>
     ensures { GivenBy kind result }
 {

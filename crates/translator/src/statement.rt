@@ -1,11 +1,11 @@
 // Statements: names, types and code.
-// What reads has a `within`: places are plain numbers, so how its end lies to its start is a fact of the call, not of a type.
+// `within`, and no cursor as in the parser: an answer is a place alone, of a text passed by reference, asked at an argument.
 ghost use Rattle.std.specs.Prelude.{◌+◌, ◌<◌, ◌≤◌, length, IfOk};
 ghost use Rattle.stacks.specs.Held.{seen};
 ghost use Rattle.translator.specs.Statements.{held, TranslatesNeeded, TranslatesCondition, Closes, Tests, Advances, TranslatesStmt, TranslatesStmts, TranslatesBlock, TranslatesBody, TranslatesDefinition, TranslatesAssignment, TranslatesModification, TranslatesEvaluation, TranslatesConditional, TranslatesElse, TranslatesWhile, TranslatesDo, TranslatesBounds, TranslatesFor, TranslatesCount, TranslatesJump, TranslatesReturn};
 
-use crate::define::{bind, define, enter};
-use crate::expression::{LOOSEST, expression, joined, whole};
+use crate::define::{CELLS_BEFORE_FOR, bind, define, enter};
+use crate::expression::{expression, joined, unexpected, whole};
 use crate::look::{modifier_of, scalar_of};
 use crate::name::{Entry, Name};
 use crate::op::emit;
@@ -14,14 +14,11 @@ use crate::scope::{cells_in, variable_at};
 use crate::typed::Typed;
 use crate::work::Work;
 use lexer::Kind;
-use lookahead::{Lead, Text};
+use lookahead::{LOOSEST, Lead, Text};
 use machine::{Instruction, Op};
 use meaning::{Operator, Scalar};
 use refusal::{Reason, Refusal};
 use stacks::BoundedStack;
-
-// The most cells that a `for` finds in use: it takes two more, of 64.
-const CELLS_BEFORE_FOR: usize = 62;
 
 // An expression of a type, else a fault at `place`.
 fn needed(
@@ -59,6 +56,7 @@ fn condition(
 }
 
 // TYPE NAME = e ;
+// It changes the names and the code and leaves the jumps alone, which taking two stacks says without a clause.
 fn definition(
     text: &Text,
     at: usize,
@@ -267,7 +265,7 @@ impl Work<'_> {
             Some(Lead::Jump) => jump(text, at, &mut self.jumps, &mut self.code, in_loop),
             Some(Lead::Return) => returning(text, at, &self.names, &mut self.code),
             Some(Lead::Expression) => evaluation(text, at, &self.names, &mut self.code),
-            None => Err(Reason::UnexpectedToken.at(text.token_at(at).place)),
+            None => Err(unexpected(text, at)),
         }
     }
 
@@ -290,6 +288,7 @@ impl Work<'_> {
     }
 
     // Statements in braces, in a level of their own.
+    // Like `body` only in that a level is entered and left: with a closure over the work, what the work holds then is hidden.
     #[cycle(statements)]
     fn block(&mut self, text: &Text, at: usize, in_loop: bool) -> Result<usize, Refusal>
         requires { at < length text.now.tokens.now }

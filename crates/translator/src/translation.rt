@@ -22,7 +22,8 @@ pub const CODE_LIMIT: usize = 4 * TOKEN_LIMIT;
 // Room for the names of a script: fewer than one a token, and four that no token defines.
 const NAMES: usize = TOKEN_LIMIT + 4;
 
-// A source that is not too long, and lists that are long enough.
+// A source that is not too long, and lists that are long enough. The reading tests the first two again; here they are tested
+// before the third, and all before anything is read.
 fn check_sizes(source: &[u8], tokens: &[Token], code: &[Instruction]) -> Result<(), Refusal>
     ensures { SizesAre source.now tokens.now code.now result }
 {

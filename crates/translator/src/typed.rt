@@ -1,4 +1,7 @@
-// What the parts of an expression came to: a struct each, whose first field's name says what it is, not one generic.
+// What the parts of a script came to: a struct each, whose first field's name says what it is, not one generic.
+ghost use Rattle.std.specs.Prelude.{◌≡◌, None, Some};
+ghost use Rattle.std.specs.Option.{IfSome};
+
 use meaning::Scalar;
 
 // An expression's type, and the place in the tokens after it.
@@ -28,4 +31,38 @@ pub(crate) struct Listed {
 pub(crate) struct Called {
     pub(crate) gives: Option<Scalar>,
     pub(crate) end: usize,
+}
+
+impl From<Typed> for Called {
+    ghost from_gives = { λ typed called. called ≡ record { gives = Some typed.kind; end = typed.end } };
+
+    fn from(typed: Typed) -> Called {
+        Called {
+            gives: Some(typed.kind),
+            end: typed.end,
+        }
+    }
+}
+
+impl Called {
+    // The value that it gives, if it gives one.
+    pub(crate) fn value(self) -> Option<Typed>
+        ensures some { IfSome result (λ typed. self ≡ record { gives = Some typed.kind; end = typed.end }) }
+        ensures none { result ≡ None → self.gives ≡ None }
+    {
+        match self.gives {
+            Some(kind) => Some(Typed {
+                kind,
+                end: self.end,
+            }),
+            None => None,
+        }
+    }
+}
+
+// What an extern takes, and the place in the tokens of the bracket that closes it.
+#[derive(Clone, Copy, PartialEq, Eq, Debug)]
+pub(crate) struct Parameter {
+    pub(crate) takes: Option<Scalar>,
+    pub(crate) close: usize,
 }

@@ -28,6 +28,6 @@ module _ (x : List ℕ) (g p : Option Scalar) where
 
 pub returns : goal.returns
 returns c =
-    rw (sym (option_map_id c.find.result) ∙ find_from_yields_List (λ f. is_declared c.args.text.now c.args.gives c.args.takes (callee_of f)) _ _ _ c.find.ensures.ran
+    rw (sym (option_map_id c.find.result) ∙ find_from_yields_List (λ f. is_declared c.args.word.now c.args.gives c.args.takes (callee_of f)) _ _ _ c.find.ensures.ran
     (rw c.into_iter.ensures.into_iter_gives.0 at (YieldsList-from_shown array_steps (λ y. y) array_into_iter_items (λ s t k. k.0) (λ s x t k. k) c.into_iter.result)) (λ x b q k. search rules))
-    (in_turn c.args.text.now c.args.gives c.args.takes _ _ _ _ refl refl refl refl)
+    (in_turn c.args.word.now c.args.gives c.args.takes _ _ _ _ refl refl refl refl)

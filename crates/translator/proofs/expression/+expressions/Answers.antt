@@ -4,6 +4,7 @@ use Rattle.std.proofs.lemmas.Result.{err_from_is_err_and}
 use Rattle.refusal.specs.Told.{refused}
 use Rattle.meaning.specs.Trees.{negate, invert}
 use Rattle.stacks.specs.Held.{seen}
+use Rattle.translator.specs.declared.typed.Called.{Called}
 use Rattle.translator.proofs.Arguments.{none_done, first_wrong, first_listed, next_wrong, next-listed, listed-done}
 use Rattle.translator.proofs.Calls.{call-name, call_place, call_args, callee_wrong, argument_wrong, misfit, call-done, call-fault, call_void, call_gives, takes_is}
 use Rattle.translator.proofs.Operands.{when_constant, when_prefix, when_bracket, when_call, when_variable, when_nothing, when_minus, when_bang, negate_keeps, invert_refuses, unary_fault, unary_misfit, prefix_place, negate_under, negate_done, invert_under, invert_done, bracket_inner, bracket_fault, bracket_done}
@@ -257,10 +258,12 @@ value_of_call-returns-in_err-called-clause-same t c =
 pub value_of_call-returns-in-Some-clause-same : goal.value_of_call-returns-in-Some-clause-same
 value_of_call-returns-in-Some-clause-same t c x q xs h =
     let d = c.in_ok-called.ensures.same x q xs h in
-    (call_gives x q xs _ _ (d.0 ∙ rw c.in-Some.is refl), d.1, d.2)
+    let f = ap (λ (k : Called). k.gives) c.in-Some.ensures.some in
+    let g = ap (λ (k : Called). k.end) c.in-Some.ensures.some in
+    (call_gives x q xs _ _ (d.0 ∙ rw f refl), rw g at d.1, d.2)
 
 pub value_of_call-returns-in-None-clause-same : goal.value_of_call-returns-in-None-clause-same
 value_of_call-returns-in-None-clause-same t c =
     rw c.at.ensures (λ x q xs h.
     let d = c.in_ok-called.ensures.same x q xs h in
-    call_void x q xs _ (d.0 ∙ rw c.in-None.is refl) ∙ ap (refused 15) (sym (call_place _ _ _ _ _ x q xs h c.token_at.result (c.token_at.ensures.there c.requires))))
+    call_void x q xs _ (d.0 ∙ rw (c.value.ensures.none c.in-None.is) refl) ∙ ap (refused 15) (sym (call_place _ _ _ _ _ x q xs h c.token_at.result (c.token_at.ensures.there c.requires))))

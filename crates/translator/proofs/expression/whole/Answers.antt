@@ -12,4 +12,5 @@ returns-in_err-typed-clause-same c =
     rw (p.1, p.2) (λ e q ls h u. valued_fault e _ _ _ (no_call _ _ _ _ _ (sym c.if-calls_at.ensures.same) e h) (c.in_err-typed.ensures.same e h))
 
 pub returns-clause-same : goal.returns-clause-same
-returns-clause-same c e q ls h u = value-done _ _ _ _ _ (sym c.if-calls_at.ensures.same) e h _ c.in_ok-typed.typed (c.in_ok-typed.ensures.same e h)
+returns-clause-same c e q ls h u =
+    rw c.into.ensures (value-done _ _ _ _ _ (sym c.if-calls_at.ensures.same) e h _ c.in_ok-typed.typed (c.in_ok-typed.ensures.same e h))

@@ -13,7 +13,7 @@ returns-in_err-entry c =
     let p = err_from_is_err_and c.from_residual.result c.from_residual.ensures.1 in
     rw (p.1, p.2) (λ x ls h.
     let a = c.in_err-entry.ensures x ls h in
-    rw a.1 (absent_callee (scope_of c.args.text.now.source.now (seen c.args.names.now).held) x.bytes x _ refl a.2 a.0))
+    rw a.1 (absent_callee (scope_of c.args.text.now.source.now (seen c.args.names.now).held) x _ a.2 a.0))
 
 pub returns : goal.returns
 returns c x ls h =

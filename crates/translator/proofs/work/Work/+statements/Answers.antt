@@ -1,6 +1,5 @@
 use Rattle.std.proofs.Common.{Err, arith, rules}
 use Rattle.std.proofs.lemmas.Result.{err_from_is_err_and}
-use Rattle.refusal.specs.declared.reason.Reason.TheVariants.{UnexpectedToken}
 use Rattle.stacks.specs.Held.{seen}
 use Rattle.translator.specs.Statements.{held}
 use Rattle.translator.proofs.Branches.{else_fails, else_done, condition_refused, conditional_fails, conditional_then, conditional_else}
@@ -197,9 +196,7 @@ statement-returns-in-Some-Expression-clause-same t c =
 
 pub statement-returns-in-None-clause-same : goal.statement-returns-in-None-clause-same
 statement-returns-in-None-clause-same t c =
-    rw c.at.ensures (dispatch _ _ _ c.args.in_loop _
-    (held c.args.self.now)
-    (Err (record { reason = UnexpectedToken; place = c.token_at-in-None.result.place })) _ c.in-None.ensures.same tt)
+    dispatch _ _ _ c.args.in_loop _ (held c.args.self.now) (Err c.unexpected.result) _ c.in-None.ensures.same tt
 
 pub statements-statements-init : goal.statements-statements-init
 statements-statements-init t c = (omega arith, stmts_begin _ _ _ _ _)
