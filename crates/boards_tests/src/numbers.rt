@@ -12,10 +12,7 @@ pub(crate) fn refused<T: Drop, E: Into<Refusal>>(said: Result<T, E>) -> u8 {
 
 // The answer; a refusal fails the test.
 pub(crate) fn answer<T, E: Into<Refusal>>(said: Result<T, E>) -> Result<T, Fail> {
-    match said {
-        Ok(value) => Ok(value),
-        Err(error) => Err(Fail::new(number(error))),
-    }
+    said.map_err(|error| Fail::new(number(error)))
 }
 
 fn number<E: Into<Refusal>>(error: E) -> u8 {

@@ -1,4 +1,5 @@
-// What C calls: the engine's check of a source under its name in C.
+// What C calls: the engine's check of a source under its name in C. A crate of its own, since a static library exports only
+// what stands in it, and is no library for other crates.
 #![tactic(auto)]
 
 ghost use Rattle.translator.specs.Translation.{OneAnswer};

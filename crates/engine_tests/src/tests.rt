@@ -6,7 +6,8 @@ use machine::Instruction;
 use refusal::Refusal;
 use std::test::Fail;
 
-// The number and place of a refusal; 0 where there is none.
+// The number and place of a refusal; 0 where there is none. The tests of boards have this and the next without the place:
+// tests share no library.
 fn told<T: Drop>(res: Result<T, Refusal>) -> (u8, u32) {
     match res {
         Ok(_) => (0, 0),
@@ -16,10 +17,7 @@ fn told<T: Drop>(res: Result<T, Refusal>) -> (u8, u32) {
 
 // What was accepted.
 fn accepted<T>(res: Result<T, Refusal>) -> Result<T, Fail> {
-    match res {
-        Ok(value) => Ok(value),
-        Err(_) => Err(Fail::new("refused")),
-    }
+    res.map_err(|_| Fail::new("refused"))
 }
 
 const ZONE: [i32; 1] = [7];

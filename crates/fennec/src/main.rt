@@ -22,7 +22,7 @@ const ALLOWANCE: u32 = 16;
 
 const TICKS: u32 = 1_000;
 
-// Loads the source and lets it go with all its ticks.
+// Loads the source and lets it go with all its ticks, as the tests of the engine do: programs share no library for this.
 fn measure<B: Board>(source: &[u8], board: &mut B) -> Result<Answer, Refusal> {
     let mut tokens = [Token::default(); TOKEN_LIMIT];
     let mut code = [Instruction::default(); CODE_LIMIT];
@@ -31,7 +31,8 @@ fn measure<B: Board>(source: &[u8], board: &mut B) -> Result<Answer, Refusal> {
     engine.go(&code, board, TICKS)
 }
 
-// Every report that the board kept, in order. The program `frames` has this loop with another word in the line.
+// Every report that the board kept, in order. The program `frames` has this loop with other words in its
+// line: programs share no library for three lines.
 fn print_reports<B: Board>(rt: &HostRuntime, board: &mut B) -> io::Result<()> {
     for report in (0..usize::MAX).map_while(|k| board.kept(k)) {
         println!(rt; "report {report}")?;

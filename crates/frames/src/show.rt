@@ -38,7 +38,7 @@ pub(crate) fn print_go(rt: &HostRuntime, answer: Result<Answer, Refusal>) -> io:
     }
 }
 
-// Every report that the board kept, in order.
+// Every report that the board kept, in order; `fennec` has this loop with other words, and programs share no library for it.
 pub(crate) fn print_reports<B: Board>(rt: &HostRuntime, board: &mut B) -> io::Result<()> {
     for report in (0..usize::MAX).map_while(|k| board.kept(k)) {
         println!(rt; "report: {report}")?;

@@ -6,7 +6,7 @@ use refusal::Refusal;
 use std::io;
 use std::io::Read;
 
-// The verdict of reading, then of the grammar.
+// The verdict of reading, then of the grammar; the tests of the grammar have it too, and share no library with this program.
 fn verdict(source: &[u8]) -> Result<(), Refusal> {
     let mut tokens = [Token::default(); TOKEN_LIMIT];
     let count = lexer::read(source, &mut tokens)?;

@@ -12,6 +12,7 @@ pub enum Fault {
     Refused(#[from] Refusal),
 }
 
+// By hand: a derived one has no type parameter of its own.
 impl<B: Drop> From<RefusedCrop<B>> for Fault {
     fn from(refused: RefusedCrop<B>) -> Fault {
         Fault::Refused(refused.into())

@@ -1,4 +1,4 @@
-// A board's zones as a table.
+// A board's zones as a table. A board is asked zone by zone, so these loops count.
 use boards::Board;
 use std::io;
 
