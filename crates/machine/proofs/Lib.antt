@@ -1,4 +1,5 @@
 pub mod Tops
+pub mod Moving
 pub mod Landing
 pub mod Stepping
 pub mod Falls

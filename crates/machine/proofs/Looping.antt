@@ -1,13 +1,15 @@
 -- The loop of a run: what it keeps from turn to turn.
-use Rattle.std.proofs.Common.{◌≡◌, ℕ, ◌+◌, ◌-◌, ◌≤◌, List, sym, ap, ◌∙◌, zero-add, arith}
+use Rattle.std.proofs.Common.{◌≡◌, ℕ, ◌+◌, ◌-◌, ◌<◌, ◌≤◌, List, length, Some, None, Option, sym, refl, ap, ◌∙◌, add-zero, zero-add, arith}
+use Rattle.std.specs.List.{slice_get}
 use Rattle.machine.specs.declared.stop.Stop.{Stop}
 use Rattle.machine.specs.declared.stop.Stop.TheVariants.{Waits, Ends, Breaks}
 use Rattle.machine.specs.declared.instruction.Instruction.{Instruction}
-use Rattle.machine.specs.Endings.{end_of}
-use Rattle.machine.specs.Operations.{How}
-use Rattle.machine.specs.Steps.{State, go, step}
+use Rattle.machine.specs.Endings.{End, end_of}
+use Rattle.machine.specs.Operations.{How, ends, waits, breaks}
+use Rattle.machine.specs.Steps.{State, go, stop, wait, break, fetched, step}
 use Rattle.machine.specs.Runs.{Ran, ran, later, run, up_to}
 use Rattle.machine.specs.Views.{stop_of, stopped, carried_of}
+use Rattle.machine.proofs.Falls.{inside}
 use Rattle.machine.proofs.Equations.{run_go, run_stop, run_wait, run_break}
 
 -- the run from the start is the run from here, after the instructions counted so far:
@@ -17,6 +19,20 @@ pub record Loop (code : List Instruction) (before : ℕ) (first here : State) (s
   pub counts : counted ≡ up_to (before + carried)
   pub since : start ≤ here.position
   pub same : run code first ≡ later (carried + (here.position - start)) (run code here)
+
+-- a step that goes on or stops had an instruction
+fetched_inside : (code : List Instruction) (u : State) → (step code u ≡ break u → ⊥) → u.position < length code
+fetched_inside code u f = by (slice_get code u.position) refl
+  where
+    by : (o : Option Instruction) → slice_get code u.position ≡ o → u.position < length code
+    by None e = absurd (f (ap (fetched code u) e))
+    by (Some i) e = inside code u.position i e
+
+pub inside_go : (code : List Instruction) (u v : State) → step code u ≡ go v → u.position < length code
+inside_go code u v e = fetched_inside code u (λ f. let z : ◌≡◌ {A = ℕ} 0 1 = cc in omega arith)
+
+pub inside_stop : (code : List Instruction) (u v : State) (d : End) → step code u ≡ stop d v → u.position < length code
+inside_stop code u v d e = fetched_inside code u (λ f. let z : ◌≡◌ {A = ℕ} 0 1 = cc in omega arith)
 
 module _ (code : List Instruction) (before : ℕ) (first : State) where
   pub begins : (u : State) → first ≡ u → (start counted : ℕ) → start ≡ u.position → counted ≡ before → before ≤ 18446744073709551615
@@ -61,6 +77,18 @@ module _ (code : List Instruction) (before : ℕ) (first : State) where
     last_same h n k e c =
         let same : run code first ≡ ran h v ((l.carried + (u.position - start)) + n) = l.same ∙ ap (later (l.carried + (u.position - start))) e in
         (ap (λ (r : Ran). r.how) (sym same), ap (λ (r : Ran). r.state) (sym same), rw (same, c, l.counts) (omega arith))
+
+    pub ended_same : (d : End) (k : ℕ) → step code u ≡ stop d v → k ≡ up_to (counted + ((u.position - start) + 1))
+        → (ends d ≡ (run code first).how) × (v ≡ (run code first).state) × (k ≡ up_to (before + (run code first).carried))
+    ended_same d k e c = last_same (ends d) 1 k (run_stop code u v d e) c
+
+    pub waited_same : (k : ℕ) → step code u ≡ wait v → k ≡ up_to (counted + (u.position - start))
+        → (waits ≡ (run code first).how) × (v ≡ (run code first).state) × (k ≡ up_to (before + (run code first).carried))
+    waited_same k e c = last_same waits 0 k (run_wait code u v e) (rw c (ap (λ n. up_to (counted + n)) (sym (add-zero (u.position - start)))))
+
+    pub broke_same : (k : ℕ) → step code u ≡ break v → k ≡ up_to (counted + (u.position - start))
+        → (breaks ≡ (run code first).how) × (v ≡ (run code first).state) × (k ≡ up_to (before + (run code first).carried))
+    broke_same k e c = last_same breaks 0 k (run_break code u v e) (rw c (ap (λ n. up_to (counted + n)) (sym (add-zero (u.position - start)))))
 
     -- whatever stopped it
     pub stopped_same : (s : Stop) (k : ℕ) → step code u ≡ stopped s v → k ≡ up_to (counted + ((u.position - start) + carried_of s))

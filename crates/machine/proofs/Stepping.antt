@@ -1,5 +1,7 @@
 -- From what an instruction's function says to the step.
-use Rattle.std.proofs.Common.{◌≡◌, ℕ, ◌+◌, List, ℤ, Some, Ok, Err, Result, refl, ap, ◌∙◌}
+use Rattle.std.proofs.Common.{◌≡◌, ℕ, ◌+◌, ◌<◌, ◌≤◌, List, length, get_or, ℤ, pos, negsuc, Some, Ok, Err, Result, refl, ap, ◌∙◌, w32, SFits, of_z}
+use Rattle.std.proofs.lemmas.List.{get_or_past}
+use Rattle.std.proofs.lemmas.Option.{slice_get-get_or, slice_get_past}
 use Rattle.std.specs.List.{slice_get}
 use Rattle.std.specs.Result.{IsErrAnd}
 use Rattle.boards.specs.Meaning.{Meaning}
@@ -8,9 +10,9 @@ use Rattle.machine.specs.declared.instruction.Instruction.{Instruction}
 use Rattle.machine.specs.declared.memory.Memory.{Memory}
 use Rattle.machine.specs.declared.stop.Stop.{Stop}
 use Rattle.machine.specs.declared.stop.Stop.TheVariants.{Waits, Ends, Breaks}
-use Rattle.machine.specs.Codes.{unknown, decode}
+use Rattle.machine.specs.Codes.{Operation, unknown, operations, decode, operation_of}
 use Rattle.machine.specs.Operations.{Store, Did, Reply}
-use Rattle.machine.specs.Steps.{State, at, moved, performed, step}
+use Rattle.machine.specs.Steps.{State, at, break, moved, performed, step}
 use Rattle.machine.specs.Views.{store_of, state_of, stop_of, stopped, next_of, after, fetched_at, Moves, Asks}
 
 stopped_is : (s : Stop) (u : State) (m : Store) (b : Meaning) → stopped s (at m u.position u.left b) ≡ moved (stop_of s) u m b
@@ -35,7 +37,26 @@ pub fetched_is : (code : List Instruction) (u : State) (i : Instruction) → sli
     → performed code u (decode z i.operand) ≡ step code u
 fetched_is code u i here z e = rw (here, e)
 
+module _ (code : List Instruction) (from : Cursor) (d : Instruction) (inside : from.position < length code) where
+  pub by_operation : (m : Memory) (b : Meaning) (o : Operation) → operation_of (get_or code from.position d) ≡ o → step code (state_of m from b) ≡ performed code (state_of m from b) o
+  by_operation m b o e = rw (slice_get-get_or code from.position d inside, e)
+
+-- an instruction by its code
+pub decoded : (i : Instruction) (n : ℕ) → i.code ≡ pos n → operation_of i ≡ get_or (operations i.operand) n unknown
+decoded i n e = ap (λ z. decode z i.operand) e
+
+pub not_decoded : (i : Instruction) → SFits w32 i.code → 22 ≤ of_z w32 i.code → operation_of i ≡ unknown
+not_decoded i f l = past i.code f l
+  where
+    past : (z : ℤ) → SFits w32 z → 22 ≤ of_z w32 z → decode z i.operand ≡ unknown
+    past (pos n) f l = get_or_past (operations i.operand) n unknown l
+    past (negsuc n) f l = refl
+
 pub unknown_is : (code : List Instruction) (from : Cursor) (m : Memory) (b : Meaning) (i : Instruction) → slice_get code from.position ≡ Some i
     → decode i.code i.operand ≡ unknown → (r : Result (Unit {0}) Stop) → IsErrAnd r (λ s. s ≡ Breaks) → after r from from m b ≡ step code (state_of m from b)
 unknown_is code from m b i here e (Ok x) k = absurd k
 unknown_is code from m b i here e (Err s) k = rw (k, here, e)
+
+-- where no instruction stands
+pub broke_outside : (code : List Instruction) (from : Cursor) (m : Memory) (b : Meaning) → length code ≤ from.position → break (state_of m from b) ≡ step code (state_of m from b)
+broke_outside code from m b l = rw (slice_get_past code from.position l)

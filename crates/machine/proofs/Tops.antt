@@ -19,6 +19,11 @@ tops_set xs i v (suc n) h =
 pub tops_push : (xs : List ℤ) (n : ℕ) (v : ℤ) → n < length xs → tops (set xs n v) (n + 1) ≡ v ∷ tops xs n
 tops_push xs n v h = rw (add-one, get_or-set_same, tops_set xs n v n (omega arith))
 
+pub tops-one : (xs : List ℤ) (n : ℕ) → 0 < n → tops xs n ≡ get_or xs (n - 1) (pos 0) ∷ tops xs (n - 1)
+tops-one xs n h =
+    let e : n ≡ suc (n - 1) = omega arith in
+    ap (tops xs) e
+
 pub tops_two : (xs : List ℤ) (n : ℕ) → 2 ≤ n → tops xs n ≡ get_or xs (n - 1) (pos 0) ∷ (get_or xs (n - 2) (pos 0) ∷ tops xs (n - 2))
 tops_two xs n h =
     let e : n ≡ suc (suc (n - 2)) = omega arith in

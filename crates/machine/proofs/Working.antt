@@ -1,12 +1,15 @@
 -- What does not go on leaves cells, values, position and ticks as they were.
-use Rattle.std.proofs.Common.{◌≡◌, ℕ, Bool, true, false, cond, ltb, List, [], ◌∷◌, length, get_or, ℤ, pos, negsuc, Some, None, Option, refl, arith, w32}
+use Rattle.std.proofs.Common.{◌≡◌, ℕ, zero, suc, ◌+◌, Bool, true, false, cond, ltb, List, [], ◌∷◌, length, get_or, ℤ, pos, negsuc, Some, None, Option, refl, arith, w32}
+use Rattle.std.specs.List.{slice_get}
 use Rattle.refusal.specs.Told.{Told, accepted, refused}
 use Rattle.boards.specs.Meaning.{Meaning, zone_answer, report_answer}
-use Rattle.ints.specs.Arith.{compute}
+use Rattle.ints.specs.Arith.{is_zero, compute}
 use Rattle.ints.specs.declared.operator.Operator.{Operator}
 use Rattle.ints.specs.declared.operator.Unary.{Unary}
-use Rattle.machine.specs.Codes.{Plain, push, load, store, discard, binary, unary, give, Query, zone, columns, rows, report}
+use Rattle.machine.specs.declared.instruction.Instruction.{Instruction}
+use Rattle.machine.specs.Codes.{Plain, push, load, store, discard, binary, unary, give, Query, zone, columns, rows, report, Operation, plain, ask, jump, jump_if_zero, tick, unknown, operation_of, may_land}
 use Rattle.machine.specs.Operations.{Store, How, goes, ends, waits, breaks, Did, done, fault, pushed, loaded, stored_top, stored, discarded, computed, combined, turned, given, exec, zoned, zone_of, filed, report_of, answer}
+use Rattle.machine.specs.Steps.{State, Next, go, stop, wait, break, go_to, moved, jumped, branched, ticked, performed, fetched, step}
 
 -- by how an operation comes out: none waits, none ends a run as waiting, and what does not go on changes nothing
 abbrev pub WorksAs : How → Store → Store → Type 0
@@ -88,3 +91,55 @@ answer_works zone m b = zone_works m.stack m b
 answer_works columns m b = pushed_works _ m
 answer_works rows m b = pushed_works _ m
 answer_works report m b = report_works m.stack m b
+
+pub record Same (u v : State) : Type 0 where
+  pub store : v.store ≡ u.store
+  pub position : v.position ≡ u.position
+  pub left : v.left ≡ u.left
+
+abbrev pub Still : State → Next → Type 0
+Still u (go v) = Unit {0}
+Still u (stop d v) = Same u v
+Still u (wait v) = Same u v
+Still u (break v) = Same u v
+
+module _ (code : List Instruction) (u : State) where
+  here : Same u u
+  here = record { store = refl; position = refl; left = refl }
+
+  cond_still : (t : Bool) (x y : Next) → Still u x → Still u y → Still u (cond t x y)
+  cond_still true x y p q = p
+  cond_still false x y p q = q
+
+  moved_still : (h : How) (m : Store) (b : Meaning) → WorksAs h u.store m → Still u (moved h u m b)
+  moved_still goes m b w = tt
+  moved_still (ends e) m b w = record { store = w.1; position = refl; left = refl }
+  moved_still waits m b w = absurd w
+  moved_still breaks m b w = record { store = w; position = refl; left = refl }
+
+  jumped_still : (a : ℤ) (s : List ℤ) → Still u (jumped code a s u)
+  jumped_still (pos t) s = cond_still (may_land code u.position t) (go (go_to u s t)) (break u) tt here
+  jumped_still (negsuc t) s = here
+
+  branched_still : (a : ℤ) (s : List ℤ) → Still u (branched code a s u)
+  branched_still a [] = here
+  branched_still a (v ∷ s) = cond_still (is_zero v) (jumped code a s u) (go (go_to u s (u.position + 1))) (jumped_still a s) tt
+
+  ticked_still : (l : ℕ) → Still u (ticked l u)
+  ticked_still zero = here
+  ticked_still (suc l) = tt
+
+  performed_still : (o : Operation) → Still u (performed code u o)
+  performed_still (plain o) = moved_still (exec o u.store).how _ _ (exec_works o u.store)
+  performed_still (ask q) = moved_still (answer q u.store u.board).did.how _ _ (answer_works q u.store u.board)
+  performed_still (jump a) = jumped_still a u.store.stack
+  performed_still (jump_if_zero a) = branched_still a u.store.stack
+  performed_still tick = ticked_still u.left
+  performed_still unknown = here
+
+  fetched_still : (o : Option Instruction) → Still u (fetched code u o)
+  fetched_still None = here
+  fetched_still (Some i) = performed_still (operation_of i)
+
+pub step_still : (code : List Instruction) (u : State) → Still u (step code u)
+step_still code u = fetched_still code u (slice_get code u.position)
