@@ -1,10 +1,12 @@
 -- What crops show. Assumes nothing.
-use Rattle.std.proofs.Common.{◌≡◌, ℕ, ◌+◌, ◌*◌, ◌/◌, ◌%◌, ◌^◌, ◌<◌, ◌≤◌, true, List, length, ℤ, pos, refl, ap, ◌∙◌, ⊎_elim, mul_comm, arith}
+use Rattle.std.proofs.Common.{◌≡◌, ℕ, ◌+◌, ◌*◌, ◌/◌, ◌%◌, ◌^◌, ◌<◌, ◌≤◌, true, List, length, ℤ, pos, negsuc, Some, None, refl, ap, ◌∙◌, ⊎_elim, mul_comm, arith}
 use Rattle.std.proofs.lemmas.Nat.{mul-le, mul-add-lt, div-mul-add, mod-mul-add, div_below, mod_below}
+use Rattle.std.proofs.lemmas.List.{get_or_past}
 use Rattle.std.proofs.lemmas.Bool.{cases_lt, lt-ltb, le-ltb}
 use Rattle.std.proofs.lemmas.Bool.Decides.{nat_tests}
-use Rattle.boards.specs.Meaning.{Meaning}
-use Rattle.boards.specs.Crop.{place_of, zone_or0, cropped, lies_in, ShowsSound, joined, CropOfCrop}
+use Rattle.refusal.specs.Told.{accepted, refused}
+use Rattle.boards.specs.Meaning.{Meaning, zone_answer}
+use Rattle.boards.specs.Crop.{place_of, numbered, zone_or0, cropped, lies_in, ShowsSound, joined, CropOfCrop}
 use Rattle.boards.specs.declared.window.Window.{Window}
 use Rattle.boards.proofs.Tables.{length-table, get_or-table, table_same}
 
@@ -79,6 +81,20 @@ crop_of_crop v w m p q =
     let inner = inside w v.columns v.rows q in
     let same = table_same (w.columns * w.rows) _ _ (zone_joined m v w outer inner) in
     ap (λ (zs : List ℤ). record { columns = w.columns; rows = w.rows; zones = zs; reports = m.reports; allowance = m.allowance }) same
+
+-- what a crop answers from what the board below does
+module _ (m : Meaning) (p : ℕ) where
+  pub zone_unnumbered : None ≡ numbered p → pos 0 ≡ zone_or0 m p
+  zone_unnumbered e = grind (arith, nat_tests)
+
+  pub zone_below : (at v : ℤ) → Some at ≡ numbered p → accepted v ≡ zone_answer m at → v ≡ zone_or0 m p
+  zone_below (pos k) v e z = grind (arith, nat_tests)
+  zone_below (negsuc k) v e z = grind (arith, nat_tests)
+
+  pub zone_absent : (at : ℤ) (number place : ℕ) → Some at ≡ numbered p →
+      refused number place ≡ zone_answer m at → pos 0 ≡ zone_or0 m p
+  zone_absent (pos k) number place e z = grind (arith, nat_tests, get_or_past)
+  zone_absent (negsuc k) number place e z = grind (arith, nat_tests)
 
 -- a crop that lies inside a sound board
 module _ (m : Meaning) (w : Window) (lies : lies_in w m.columns m.rows ≡ true) where

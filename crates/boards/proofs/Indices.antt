@@ -1,5 +1,5 @@
 -- Zones that are given by a function of their number. Assumes nothing.
-use Rattle.std.proofs.Common.{◌≡◌, ℕ, ℤ, pos, negsuc, sym, refl, ap, ◌∙◌, arith}
+use Rattle.std.proofs.Common.{◌≡◌, ℕ, ◌<◌, ℤ, pos, negsuc, sym, refl, ap, ◌∙◌, arith}
 use Rattle.std.proofs.lemmas.Bool.Decides.{nat_tests}
 use Rattle.refusal.specs.Told.{Told, accepted, refused}
 use Rattle.boards.specs.Meaning.{Meaning, zone_answer, index_answer}
@@ -10,6 +10,10 @@ use Rattle.boards.proofs.Tables.{length-table, get_or-table}
 abbrev at : (ℕ → ℤ) → Told ℕ → Told ℤ
 at f (accepted k) = accepted (f k)
 at f (refused number place) = refused number place
+
+pub index_below : (n k : ℕ) (i : ℤ) → accepted k ≡ index_answer n i → k < n
+index_below n k (pos j) e = grind (arith, nat_tests)
+index_below n k (negsuc j) e = grind (arith, nat_tests)
 
 module _ (m : Meaning) (n : ℕ) (f : ℕ → ℤ) (tabled : m.zones ≡ table n f) where
   by_index : (i : ℤ) → zone_answer m i ≡ at f (index_answer n i)

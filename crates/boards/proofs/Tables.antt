@@ -1,9 +1,10 @@
 -- Lists and sums given by a function of the number. Assumes nothing.
-use Rattle.std.proofs.Common.{◌≡◌, ℕ, zero, suc, ◌+◌, ◌<◌, ◌≤◌, List, [], ◌∷◌, map, Some, None, sum, length, get_or, take, sym, refl, ap, ◌∙◌, zero-add, add-zero, arith}
+use Rattle.std.proofs.Common.{◌≡◌, ℕ, zero, suc, ◌+◌, ◌<◌, ◌≤◌, List, [], ◌∷◌, map, Some, None, sum, length, get_or, take, sym, refl, ap, ◌∙◌, ⊎_elim, zero-add, add-zero, add-one, arith}
 use Rattle.std.specs.List.{range_with_len, slice_get}
 use Rattle.std.proofs.lemmas.Option.{slice_get-get_or, slice_get_past}
-use Rattle.std.proofs.lemmas.List.FromFn.{length-map-range_with_len, get_or-map-range_with_len}
+use Rattle.std.proofs.lemmas.List.FromFn.{length-map-range_with_len, get_or-map-range_with_len, sum_by-map-range_with_len_more}
 use Rattle.std.proofs.lemmas.List.{same_lists}
+use Rattle.std.proofs.lemmas.Bool.{cases_lt}
 use Rattle.std.proofs.lemmas.List.Sums.{sum_by-cons}
 use Rattle.std.proofs.Math.Seq.{take-nil}
 use Rattle.boards.specs.Table.{table, sum_of}
@@ -27,6 +28,27 @@ pub table_same : {X : Type 0} (n : ℕ) (f g : ℕ → X) → ((i : ℕ) → i <
 table_same n f g e =
     same_lists _ _ (length-table n f ∙ sym (length-table n g))
     (λ k d h. let l : k < n = rw length-table at h in get_or-table n f k d l ∙ e k l ∙ sym (get_or-table n g k d l))
+
+-- one more
+pub sum_of_more : (n : ℕ) (f : ℕ → ℕ) → sum_of (n + 1) f ≡ sum_of n f + f n
+unfolding table sum_of
+sum_of_more n f = sum_by-map-range_with_len_more (λ v. v) f 0 n n (rw zero-add refl)
+
+pub sum_of-none : (f : ℕ → ℕ) → sum_of 0 f ≡ 0
+unfolding table sum_of
+sum_of-none f = refl
+
+-- what is 0 from n on adds nothing from n on
+pub sum_of-past : (n m : ℕ) (f : ℕ → ℕ) → n ≤ m → ((k : ℕ) → n ≤ k → k < m → f k ≡ 0) → sum_of n f ≡ sum_of m f
+sum_of-past n zero f h z = let e : n ≡ 0 = omega arith in rw e refl
+sum_of-past n (suc m) f h z =
+    ⊎_elim
+    (λ l.
+    let e : f m ≡ 0 = z m (omega arith) (omega arith) in
+    let more : sum_of (suc m) f ≡ sum_of m f + f m = rw add-one at (sum_of_more m f) in
+    sum_of-past n m f (omega arith) (λ k a b. z k a (omega arith)) ∙ omega (arith, e, more))
+    (λ l. let e : n ≡ suc m = omega arith in rw e refl)
+    (cases_lt n (suc m))
 
 pub sum_of_same : (n : ℕ) (f g : ℕ → ℕ) → ((k : ℕ) → k < n → f k ≡ g k) → sum_of n f ≡ sum_of n g
 unfolding sum_of

@@ -1,8 +1,8 @@
--- Quotients and casts, from the bits to the numbers.
-use Rattle.std.proofs.Common.{◌≡◌, ℕ, zero, suc, ◌/◌, ◌^◌, ◌<◌, ◌≤◌, false, ℤ, pos, negsuc, neg_ℤ, Some, sym, refl, ap, ◌∙◌, mod-eq_of_lt, div-le_self, arith, w32, SFits, to_z, of_z}
-use lib.Signed.{quot_z}
-use Rattle.std.specs.Int.{int_wrap}
-use Rattle.std.proofs.lemmas.Int.{to_z-of_z, int_wrap_fits}
+-- Quotients, low bits and casts, from the bits to the numbers.
+use Rattle.std.proofs.Common.{◌≡◌, ℕ, zero, suc, ◌-◌, ◌/◌, ◌%◌, ◌^◌, ◌<◌, ◌≤◌, true, false, ltb, ℤ, pos, negsuc, ◌-ℤ◌, neg_ℤ, Some, sym, refl, ap, ◌∙◌, mod-lt, mod-eq_of_lt, div-le_self, arith, w8, w32, SFits, to_z, of_z, ltb-false}
+use lib.Signed.{lt_z, quot_z}
+use Rattle.std.specs.Int.{int_rem_euclid, int_wrap}
+use Rattle.std.proofs.lemmas.Int.{ints, to_z-of_z, to_z_pos, of_z-to_z, int_wrap_fits}
 use Rattle.std.proofs.lemmas.Bool.Decides.{nat_tests}
 use Rattle.ints.specs.declared.operator.Operator.TheVariants.{Div}
 use Rattle.ints.specs.Arith.{is_zero, compute}
@@ -45,3 +45,28 @@ quotient_is l r q f g h n e =
     let near : q ≡ to_z w32 (of_z w32 (quot_z l r)) = simp to_z-of_z at e in
     let is : q ≡ int_wrap w32 (quot_z l r) = near ∙ near_wrapped (quot_z l r) (quotient_near l r f) in
     rw (to_z-of_z, not_zero r n, is)
+
+low_small : (k : ℕ) → ltb k 128 ≡ true → pos k ≡ to_z w8 k
+low_small k e = rw e
+
+low_large : (k : ℕ) → k < 256 → ltb k 128 ≡ false → pos k -ℤ pos 256 ≡ to_z w8 k
+low_large k l e = let h = ltb-false k 128 e in rw e (omega (arith, ints, h))
+
+-- the remainder by 256 is the low 8 bits, from 128 on less 256
+pub low-then : (v r : ℤ) → r ≡ int_rem_euclid v (pos 256) → lt_z r (pos 128) ≡ true → r ≡ int_wrap w8 v
+unfolding int_wrap
+low-then (pos n) r e t = e ∙ low_small (n % 256) (rw e at t)
+low-then (negsuc n) r e t = e ∙ low_small (256 - 1 - n % 256) (rw e at t)
+
+pub low_else : (v r : ℤ) → r ≡ int_rem_euclid v (pos 256) → lt_z r (pos 128) ≡ false → r -ℤ pos 256 ≡ int_wrap w8 v
+unfolding int_wrap
+low_else (pos n) r e t = rw e (low_large (n % 256) (mod-lt n (omega arith)) (rw e at t))
+low_else (negsuc n) r e t = rw e (low_large (256 - 1 - n % 256) (omega arith) (rw e at t))
+
+-- the number with the bits x, from 2 ^ 31 on
+pub high_bits : (x : ℕ) → 2 ^ 31 ≤ x → x < 2 ^ 32 → to_z w32 (of_z w32 (negsuc 0 -ℤ to_z w32 (4294967295 - x))) ≡ int_wrap w32 (pos x)
+high_bits x low high =
+    let small : to_z w32 (4294967295 - x) ≡ pos (4294967295 - x) = to_z_pos w32 (4294967295 - x) (omega arith) in
+    let past : ltb x (2 ^ 31) ≡ false = grind (arith, nat_tests) in
+    let is : negsuc 0 -ℤ to_z w32 (4294967295 - x) ≡ to_z w32 x = rw (small, past) (omega (arith, ints)) in
+    rw is (ap (to_z w32) (of_z-to_z w32 x high) ∙ bits_wrapped x high)

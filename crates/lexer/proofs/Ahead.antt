@@ -4,7 +4,7 @@ use Rattle.std.specs.List.{starts_with}
 use Rattle.std.proofs.lemmas.List.{drop_more, drop-drop, length-drop, at_drop_all, take_rest}
 use Rattle.refusal.specs.declared.reason.Refusal.{Refusal}
 use Rattle.refusal.specs.Told.{number_of}
-use Rattle.std.proofs.lemmas.Bool.{ne_eqb}
+use Rattle.std.proofs.lemmas.Bool.{ne_eqb, and_left}
 use Rattle.std.proofs.lemmas.Bool.Decides.{nat_tests}
 use Rattle.lexer.specs.declared.class.Class.{Class}
 use Rattle.lexer.specs.declared.class.Class.TheVariants.{Blank, Letter, Digit, Underscore, Quote, Mark, Stray}
@@ -96,6 +96,14 @@ long_closes p q r e = ap (λ b. cond b (between Code 1) (between (LongComment q)
 
 pub long_goes_on : (p q : ℕ) (r : List ℕ) → begins (42 ∷ 47 ∷ []) r ≡ false → front (LongComment q) p r ≡ between (LongComment q) 0
 long_goes_on p q r e = ap (λ b. cond b (between Code 1) (between (LongComment q) 0)) e
+
+-- a line feed is a blank, and `*` is a byte of marks
+pub no_feed : (b : ℕ) → (class_of b ≡ Blank → ⊥) → b ≡ 10 → ⊥
+no_feed b f e = f (ap class_of e)
+
+pub no_close : (r : List ℕ) → (class_of (get_or r 0 0) ≡ Mark → ⊥) → begins (42 ∷ 47 ∷ []) r ≡ false
+no_close [] f = refl
+no_close (b ∷ r) f = and_left (eqb b 42) (begins (47 ∷ []) r) (ne_eqb b 42 (λ e. f (ap class_of e)))
 
 -- where a token begins, and neither a blank nor a comment
 pub mark_begins : (p : ℕ) (r : List ℕ) → class_of (get_or r 0 0) ≡ Mark → begins (47 ∷ 47 ∷ []) r ≡ false → begins (47 ∷ 42 ∷ []) r ≡ false → front Code p r ≡ token_front (class_of (get_or r 0 0)) r

@@ -158,6 +158,12 @@ pub expression_is : (s : List ℕ) (ts : List Token) (i d : ℕ) (K : List Sym) 
 expression_is s ts i d K =
     alike s ts i (expr d ∷ K) (operands 6 d K) (tok_at s ts i) refl (λ j k. decide-onto (operands 6 d K) (expr d ∷ K) (λ vs. gather 6 d K vs.0 vs.1) (operand_rule d (tok_at s ts i) (tails_to 6 d K)) j k) refl
 
+tails_more : (n m d : ℕ) (K : List Sym) → n ≡ suc m → tails_to n d K ≡ tails_to m d (tail n d ∷ K)
+tails_more n m d K e = rw e refl
+
+pub operands_more : (n d : ℕ) (K : List Sym) → 0 < n → operands n d K ≡ operands (n - 1) d (tail n d ∷ K)
+operands_more n d K h = let e : n ≡ suc (n - 1) = omega arith in ap (λ (x : List Sym). operand d ∷ x) (tails_more n (n - 1) d K e)
+
 -- whether an operator of this looseness follows
 follows : (o : Option ℕ) (n : ℕ) → true ≡ option_eq eqb o (Some n) → o ≡ Some n
 follows None n h = let z : ◌≡◌ {A = ℕ} 0 1 = cc in absurd (omega arith)
@@ -264,3 +270,6 @@ further_go s ts i d K n =
 
 pub further_stop : (s : List ℕ) (ts : List Token) (i d : ℕ) (K : List Sym) → is_kind (seen ts i) Kinds.Comma ≡ false → from s ts (further d ∷ K) i ≡ from s ts K i
 further_stop s ts i d K n = skipping (further d) end refl s ts i K (tok_at s ts i) refl (word_at Comma s ts i ∙ n)
+
+pub binary_more : (s : List ℕ) (ts : List Token) (i n d : ℕ) (K : List Sym) → 0 < n → from s ts (operands n d K) i ≡ from s ts (operands (n - 1) d (tail n d ∷ K)) i
+binary_more s ts i n d K h = ap (λ (x : List Sym). from s ts x i) (operands_more n d K h)

@@ -206,8 +206,12 @@ jumped s ts i d K h l (inr c) = stepping s ts i (statement d ∷ K) (word Contin
 pub statement_jump : (s : List ℕ) (ts : List Token) (i d : ℕ) (K : List Sym) → Begins lead_of ts i d L.Jump → from s ts (statement d ∷ K) i ≡ from s ts (token Semicolon ∷ K) (i + 1)
 statement_jump s ts i d K b = jumped s ts i d K b.shallow b.inside (leads s ts i (Some L.Jump) b.is)
 
+-- an expression, at whatever place and depth
+pub statement_evaluated : (s : List ℕ) (ts : List Token) (i d : ℕ) (K : List Sym) → Some L.Expression ≡ lead_of (seen ts i) → from s ts (statement d ∷ K) i ≡ from s ts (terminated d K) i
+statement_evaluated s ts i d K e = evaluation_is s ts i d K (leads s ts i (Some L.Expression) e)
+
 pub statement_expression : (s : List ℕ) (ts : List Token) (i d : ℕ) (K : List Sym) → Begins lead_of ts i d L.Expression → from s ts (statement d ∷ K) i ≡ from s ts (terminated d K) i
-statement_expression s ts i d K b = evaluation_is s ts i d K (leads s ts i (Some L.Expression) b.is)
+statement_expression s ts i d K b = statement_evaluated s ts i d K b.is
 
 -- `return` with or without an expression
 returning : (s : List ℕ) (ts : List Token) (i d : ℕ) (K : List Sym) → d ≤ 32 → i < length ts → (c : LeadSees (Some L.Return) (tok_at s ts i)) → from s ts (statement d ∷ K) i ≡ from s ts (returned d c.0 ∷ K) (i + 1)

@@ -25,4 +25,5 @@ pub mod Sequences
 pub mod Heads
 pub mod Items
 pub mod Mains
+pub mod Copies
 pub mod Telling

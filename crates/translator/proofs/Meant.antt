@@ -36,7 +36,7 @@ module _ (Γ : Scope) (x : Ident) (p : ℕ) (q : p ≡ x.place) where
   no_variable Stop c n h = absurd h
   no_variable (Function f) c n h = rw (sym q, h) refl
 
-  no_callee : (e : Entry) (c : ℕ) → None ≡ callable_of e → Says e x.bytes Γ c → as_callee (lookup x.bytes Γ) x.place ≡ refused 14 p
+  pub no_callee : (e : Entry) (c : ℕ) → None ≡ callable_of e → Says e x.bytes Γ c → as_callee (lookup x.bytes Γ) x.place ≡ refused 14 p
   unfolding as_callee
   no_callee Level c e h = absurd h
   no_callee (Variable t) c e h = rw (sym q, h.0) refl
@@ -53,7 +53,7 @@ a_variable_is Γ x e t c m k h g = let s : Says (Variable t) x Γ c = rw k at h 
 a_callee_is : (Γ : Scope) (x : List ℕ) (p : ℕ) (f : Callee) → lookup x Γ ≡ a_function f → as_callee (a_function f) p ≡ accepted f → (lookup x Γ ≡ a_function f) × (as_callee (lookup x Γ) p ≡ accepted f)
 a_callee_is Γ x p f h e = (h, rw h e)
 
-a_function_is : (Γ : Scope) (x : List ℕ) (p : ℕ) (e : Entry) (c : ℕ) (f : Listed.Callee) → Some f ≡ callable_of e → Says e x Γ c
+pub a_function_is : (Γ : Scope) (x : List ℕ) (p : ℕ) (e : Entry) (c : ℕ) (f : Listed.Callee) → Some f ≡ callable_of e → Says e x Γ c
     → (lookup x Γ ≡ a_function (callee_of f)) × (as_callee (lookup x Γ) p ≡ accepted (callee_of f))
 unfolding as_callee
 a_function_is Γ x p Level c f e h = absurd h

@@ -1,10 +1,12 @@
 -- The names that records put in force, one record after another.
 use Rattle.std.proofs.Common.{◌≡◌, ℕ, zero, suc, ◌+◌, ◌-◌, ◌<◌, ◌≤◌, get_or, Bool, true, false, cond, ◌||◌, ltb, List, [], ◌∷◌, ◌++◌, length, take, count_by, Some, None, Decides, sym, refl, ap, ◌∙◌, arith, lt-ltb}
+use native.Mathlib.Numerals.{unary_clauses}
 use Rattle.std.proofs.lemmas.Slice.Eq.{IsBytesEq, compares_Decides}
 use Rattle.std.proofs.lemmas.List.{reverse-append, reverse-reverse, take_all, take_more}
 use Rattle.std.proofs.lemmas.Bool.Decides.{same_from_decides}
 use Rattle.std.proofs.lemmas.List.Sums.{length-filter, sum_by-cons}
-use Rattle.std.specs.List.{filter, list_any, prefix_len}
+use Rattle.std.specs.List.{slice_get, filter, list_any, prefix_len}
+use Rattle.std.proofs.lemmas.Option.{slice_get_within, get_or_from_slice_get}
 use mathlib.Core.List.{reverse}
 use Rattle.meaning.specs.declared.operator.Scalar.{Scalar}
 use Rattle.meaning.specs.Check.{Scope}
@@ -32,8 +34,21 @@ unfolding stacked
 stacked_more s [] n Γ = refl
 stacked_more s (m ∷ ns) n Γ = stacked_more s ns n (entry_of s m ∷ Γ)
 
-scope_more : (s : List ℕ) (ns : List Name) (i : ℕ) (d : Name) → i < length ns → scope_of s (take (i + 1) ns) ≡ entry_of s (get_or ns i d) ∷ scope_of s (take i ns)
-scope_more s ns i d h = ap (scope_of s) (take_more ns i d h) ∙ stacked_more s (take i ns) _ []
+scope_next : (s : List ℕ) (ns : List Name) (i : ℕ) (d : Name) → i < length ns → scope_of s (take (i + 1) ns) ≡ entry_of s (get_or ns i d) ∷ scope_of s (take i ns)
+scope_next s ns i d h = ap (scope_of s) (take_more ns i d h) ∙ stacked_more s (take i ns) _ []
+
+pub scope_more : (s : List ℕ) (ns : List Name) (i j : ℕ) → j ≡ i + 1 → (n : Name) → Some n ≡ slice_get ns i → scope_of s (take j ns) ≡ entry_of s n ∷ scope_of s (take i ns)
+scope_more s ns i j k n e =
+    rw k (scope_next s ns i n (slice_get_within ns i n (sym e)) ∙ ap (λ (m : Name). entry_of s m ∷ scope_of s (take i ns)) (get_or_from_slice_get ns i n n (sym e)))
+
+take_past : (ns : List Name) (i : ℕ) → slice_get ns i ≡ None → take (i + 1) ns ≡ take i ns
+take_past [] zero e = refl
+take_past [] (suc i) e = simp unary_clauses refl
+take_past (m ∷ ns) zero e = let z : ◌≡◌ {A = ℕ} 0 1 = cc in absurd (omega arith)
+take_past (m ∷ ns) (suc i) e = simp unary_clauses (ap (λ (l : List Name). m ∷ l) (simp unary_clauses at (take_past ns i e)))
+
+pub scope_past : (s : List ℕ) (ns : List Name) (i j : ℕ) → j ≡ i + 1 → None ≡ slice_get ns i → scope_of s (take j ns) ≡ scope_of s (take i ns)
+scope_past s ns i j k e = rw k (ap (scope_of s) (take_past ns i (sym e)))
 
 -- Looking a name up, past an entry that does not define it.
 
@@ -67,9 +82,32 @@ said Stop x Γ Δ c p q h = h
 said (Function f) x Γ Δ c p q h = p ∙ h
 
 -- The records from i on do not define a name: the older ones say what all of them do.
-record Unnamed (s : List ℕ) (ns : List Name) (x : List ℕ) (i : ℕ) : Type 0 where
-  means : lookup x (scope_of s ns) ≡ lookup x (scope_of s (take i ns))
-  cell : cell_of x (scope_of s ns) ≡ cell_of x (scope_of s (take i ns))
+pub record Unnamed (s : List ℕ) (ns : List Name) (x : List ℕ) (i : ℕ) : Type 0 where
+  pub means : lookup x (scope_of s ns) ≡ lookup x (scope_of s (take i ns))
+  pub cell : cell_of x (scope_of s ns) ≡ cell_of x (scope_of s (take i ns))
+
+module _ (s : List ℕ) (ns : List Name) (x : List ℕ) where
+  pub unnamed_none : Unnamed s ns x (length ns)
+  unnamed_none = let a : take (length ns) ns ≡ ns = take_all (length ns) ns (omega arith) in record { means = rw a refl; cell = rw a refl }
+
+  unnamed_by : (i j : ℕ) (Γ : Scope) → scope_of s (take j ns) ≡ Γ → lookup x Γ ≡ lookup x (scope_of s (take i ns)) → cell_of x Γ ≡ cell_of x (scope_of s (take i ns)) → Unnamed s ns x j → Unnamed s ns x i
+  unnamed_by i j Γ e p q u = record { means = u.means ∙ ap (lookup x) e ∙ p; cell = u.cell ∙ ap (cell_of x) e ∙ q }
+
+  pub unnamed_past : (i j : ℕ) → j ≡ i + 1 → None ≡ slice_get ns i → Unnamed s ns x j → Unnamed s ns x i
+  unnamed_past i j k e u = unnamed_by i j _ (scope_past s ns i j k e) refl refl u
+
+  pub unnamed_more : (i j : ℕ) → j ≡ i + 1 → (n : Name) → Some n ≡ slice_get ns i → false ≡ defining x (entry_of s n) → Unnamed s ns x j → Unnamed s ns x i
+  unnamed_more i j k n e h u =
+      unnamed_by i j _ (scope_more s ns i j k n e) (lookup-past x (entry_of s n) _ (sym h)) (cell_past x (entry_of s n) _ (sym h)) u
+
+  pub unnamed_finds_some : (i j : ℕ) → j ≡ i + 1 → (n : Name) → Some n ≡ slice_get ns i → true ≡ defining x (entry_of s n) → Unnamed s ns x j → Finds s ns x (Some (i, n.entry))
+  unnamed_finds_some i j k n e h u =
+      let f : scope_of s (take j ns) ≡ entry_of s n ∷ scope_of s (take i ns) = scope_more s ns i j k n e in
+      said n.entry x _ _ _ (u.means ∙ ap (lookup x) f) (u.cell ∙ ap (cell_of x) f) (found n.entry x _ _ (sym h))
+
+  pub unnamed_finds_none : Unnamed s ns x 0 → Finds s ns x None
+  unfolding stacked lookup
+  unnamed_finds_none u = u.means
 
 module _ (s : List ℕ) (ns : List Name) (x : List ℕ) (d : Name) where
   -- no record from here on defines the name; d stands for a record past the newest
@@ -81,7 +119,7 @@ module _ (s : List ℕ) (ns : List Name) (x : List ℕ) (d : Name) where
   unnamed (suc m) i e h =
       let lt : i < length ns = omega (arith, e) in
       let f : false ≡ defining x (entry_of s (get_or ns i d)) = h i (omega arith) lt in
-      let g : scope_of s (take (i + 1) ns) ≡ entry_of s (get_or ns i d) ∷ scope_of s (take i ns) = scope_more s ns i d lt in
+      let g : scope_of s (take (i + 1) ns) ≡ entry_of s (get_or ns i d) ∷ scope_of s (take i ns) = scope_next s ns i d lt in
       let u : Unnamed s ns x (i + 1) = unnamed m (i + 1) (omega (arith, e)) (λ k l. h k (omega (arith, l))) in
       record {
         means = u.means ∙ ap (lookup x) g ∙ lookup-past x _ _ (sym f);
@@ -94,7 +132,7 @@ module _ (s : List ℕ) (ns : List Name) (x : List ℕ) (d : Name) where
 
   pub finds_some : (i : ℕ) → i < length ns → true ≡ defining x (entry_of s (get_or ns i d)) → Misses (i + 1) → Finds s ns x (Some (i, (get_or ns i d).entry))
   finds_some i lt f h =
-      let g : scope_of s (take (i + 1) ns) ≡ entry_of s (get_or ns i d) ∷ scope_of s (take i ns) = scope_more s ns i d lt in
+      let g : scope_of s (take (i + 1) ns) ≡ entry_of s (get_or ns i d) ∷ scope_of s (take i ns) = scope_next s ns i d lt in
       let u : Unnamed s ns x (i + 1) = unnamed (length ns - (i + 1)) (i + 1) (omega (arith, lt)) h in
       said (get_or ns i d).entry x _ _ _ (u.means ∙ ap (lookup x) g) (u.cell ∙ ap (cell_of x) g) (found (get_or ns i d).entry x _ _ (sym f))
 
