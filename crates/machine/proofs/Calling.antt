@@ -57,12 +57,8 @@ falls_left code u v (Err Waits) h = h.1
 falls_left code u v (Err (Ends e)) h = h.1
 falls_left code u v (Err Breaks) h = h.1
 
-pub spends_within : (code : List Instruction) (u v : State) (r : Result (Unit {0}) Stop) → next_of r v v ≡ step code u → v.left ≤ u.left
-spends_within code u v r e = falls_left code u v r (subst (Falls code u) (sym e) (step_falls code u))
-
--- and where it goes on
-pub step_within : (code : List Instruction) (u v : State) → go v ≡ step code u → v.left ≤ u.left
-step_within code u v e = spends_within code u v (Ok tt) e
+pub step_within : (code : List Instruction) (u v : State) (r : Result (Unit {0}) Stop) → next_of r v v ≡ step code u → v.left ≤ u.left
+step_within code u v r e = falls_left code u v r (subst (Falls code u) (sym e) (step_falls code u))
 
 -- a step of a machine that is not over
 module _ (k : Kept) (code : List Instruction) (b : Meaning) (ticks : ℕ) (none : k.over ≡ None) where

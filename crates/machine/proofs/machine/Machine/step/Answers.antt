@@ -1,4 +1,4 @@
-use Rattle.std.proofs.Common.{sym, ap, ◌∙◌, arith}
+use Rattle.std.proofs.Common.{Ok, sym, ap, ◌∙◌, arith}
 use Rattle.machine.specs.declared.cursor.Cursor.{Cursor}
 use Rattle.machine.specs.Steps.{step}
 use Rattle.machine.specs.Runs.{kept_at, on, turn}
@@ -10,7 +10,7 @@ pub move_on-requires : goal.move_on-requires
 move_on-requires g c =
     let h = c.in_ok-from.ensures in
     let l = step_within c.first-records.result.now (state_of c.args.self.now.memory c.in_ok-from.from (g.B.Board.meaning c.args.board.now))
-    (state_of c.step.new.self c.step.new.at (g.B.Board.meaning c.step.new.board)) c.in-Ok.ensures in
+    (state_of c.step.new.self c.step.new.at (g.B.Board.meaning c.step.new.board)) (Ok tt) c.in-Ok.ensures in
     omega (arith, h.3, l)
 
 pub settle-requires : goal.settle-requires
