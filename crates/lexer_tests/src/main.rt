@@ -3,12 +3,14 @@
 // answer, how many records of the token list have changed, and those records (of many only the last).
 #![tactic(auto)]
 
+ghost use Rattle.std.specs.Prelude.{◌<◌};
+
 mod tests;
 
 use lexer::{Kind, TOKEN_LIMIT, Token};
 use std::alloc::{AllocError, Global};
+use std::io;
 use std::io::{BufRead, BufReader};
-use std::{io, str};
 
 // A record as no source gives it: what is left of it was not written.
 const UNTOUCHED: Token = Token {
@@ -21,11 +23,22 @@ const UNTOUCHED: Token = Token {
 // The most records that are printed for one source.
 const SHOWN: usize = 48;
 
+// What a digit of a table stands for; a byte that is none counts 0. The library reads capital letters and a sign too, and
+// gives up a whole pair of which one byte is no digit.
+fn digit(b: u8) -> u8
+    ensures { result < 16 }
+{
+    match b {
+        b'0'..=b'9' => b - b'0',
+        b'a'..=b'f' => b - b'a' + 10,
+        _ => 0,
+    }
+}
+
 // Puts the bytes that the hexadecimal digits stand for at the end of the source.
 fn put(source: &mut Vec<u8>, digits: &str) -> Result<(), AllocError> {
     for pair in digits.as_bytes().chunks_exact(2) {
-        let pair = str::from_utf8(pair).unwrap_or("");
-        source.push(u8::from_str_radix(pair, 16).unwrap_or(0))?;
+        source.push(digit(pair[0]) * 16 + digit(pair[1]))?;
     }
     Ok(())
 }
