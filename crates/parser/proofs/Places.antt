@@ -54,10 +54,10 @@ pub stops : {F A H : List Sym → List Sym} {b c : Cursor} {f : Fault} {r : Resu
 stops {H = H} y e x = fails _ e (λ s K. x.same s K ∙ y.same s (H K))
 
 -- .. or no more is.
-pub ends : {F : List Sym → List Sym} {b c : Cursor} → Comes F b (λ K. K) c → left c < left b → c.at ≤ length c.text.tokens.now → Reads F b (Ok c)
+pub ends : {F : List Sym → List Sym} {b c : Cursor} → Comes F b (λ K. K) c → left c < left b → c.at ≤ length c.text.now.tokens.now → Reads F b (Ok c)
 ends x l i = record { onward = (x.text, l, i); same = x.same }
 
-pub passed : {F : List Sym → List Sym} {b c : Cursor} → c ≡ past b → b.at < length b.text.tokens.now → ((s : List ℕ) (K : List Sym) → ahead s b (F K) ≡ ahead s (past b) K) → Reads F b (Ok c)
+pub passed : {F : List Sym → List Sym} {b c : Cursor} → c ≡ past b → b.at < length b.text.now.tokens.now → ((s : List ℕ) (K : List Sym) → ahead s b (F K) ≡ ahead s (past b) K) → Reads F b (Ok c)
 passed {b = b} e l h = rw e (record { onward = (refl, omega arith, omega arith); same = h })
 
 -- a token that is wanted
@@ -66,18 +66,18 @@ wanted x A w = record { onward = x.onward; same = x.same A w }
 
 -- an item, from after the token at p on
 pub item_reads : {G : List Sym → List Sym} {b c : Cursor} {r : Result Cursor Fault} (p : Cursor) → p.text ≡ b.text → b.at ≤ p.at → c ≡ past p
-    → ((s : List ℕ) (K : List Sym) → past_main s b.text.tokens.now b.at ≡ None → ahead s b (script ∷ K) ≡ ahead s (past p) (G (script ∷ K))) → Reads G c r → ReadsItem b r
+    → ((s : List ℕ) (K : List Sym) → past_main s b.text.now.tokens.now b.at ≡ None → ahead s b (script ∷ K) ≡ ahead s (past p) (G (script ∷ K))) → Reads G c r → ReadsItem b r
 item_reads {b = b} {r = r} p t n e h y =
     let x = rw e at y in
     record { onward = onward b (past p) r t (rw t (omega arith)) x.onward; same = λ s K m. h s K m ∙ x.same s (script ∷ K) }
 
 -- a token that has to fit
-pub fits_or_fails : {F : List Sym → List Sym} {b : Cursor} {t : Bool} (r : Result Cursor Fault) → MatchResult r (λ q. (t ≡ true) × (q ≡ past b)) (λ f. (t ≡ false) × (f ≡ Unexpected b.at)) → (t ≡ true → b.at < length b.text.tokens.now)
+pub fits_or_fails : {F : List Sym → List Sym} {b : Cursor} {t : Bool} (r : Result Cursor Fault) → MatchResult r (λ q. (t ≡ true) × (q ≡ past b)) (λ f. (t ≡ false) × (f ≡ Unexpected b.at)) → (t ≡ true → b.at < length b.text.now.tokens.now)
     → (t ≡ true → (s : List ℕ) (K : List Sym) → ahead s b (F K) ≡ ahead s (past b) K) → (t ≡ false → (s : List ℕ) (K : List Sym) → ahead s b (F K) ≡ refused 9 b.at) → Reads F b r
 fits_or_fails (Ok q) m l g h = passed m.1 (l m.0) (g m.0)
 fits_or_fails (Err f) m l g h = rw m.1 (record { onward = tt; same = h m.0 })
 
-pub item_fails : {b : Cursor} {r : Result Cursor Fault} (f : Fault) → IsErrAnd r (λ e. e ≡ f) → ((s : List ℕ) (K : List Sym) → past_main s b.text.tokens.now b.at ≡ None → ahead s b (script ∷ K) ≡ faulted f) → ReadsItem b r
+pub item_fails : {b : Cursor} {r : Result Cursor Fault} (f : Fault) → IsErrAnd r (λ e. e ≡ f) → ((s : List ℕ) (K : List Sym) → past_main s b.text.now.tokens.now b.at ≡ None → ahead s b (script ∷ K) ≡ faulted f) → ReadsItem b r
 item_fails {r = r} f e h = let p = err_from_is_err_and r e in rw (p.1, p.2) (record { onward = tt; same = h })
 
 -- What begins with the token at i, x by the table f, may at the depth d.

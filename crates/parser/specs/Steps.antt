@@ -24,11 +24,11 @@ past c = record c { at = c.at + 1 }
 
 -- how many tokens are left at a place
 abbrev pub left : Cursor → ℕ
-left c = length c.text.tokens.now - c.at
+left c = length c.text.now.tokens.now - c.at
 
 -- the verdict of a machine with the stack K on the tokens left at a place
 abbrev pub ahead : List ℕ → Cursor → List Sym → Outcome
-ahead s c K = judge K c.at (drop c.at (lexemes s c.text.tokens.now))
+ahead s c K = judge K c.at (drop c.at (lexemes s c.text.now.tokens.now))
 
 -- the verdict, where what stands before K was read as the answer says
 abbrev pub resumed : List ℕ → List Sym → Result Cursor Fault → Outcome
@@ -41,7 +41,7 @@ Parses F c r = (s : List ℕ) (K : List Sym) → ahead s c (F K) ≡ resumed s K
 
 -- The answer r, if it is a place, is one further on within the same text.
 abbrev pub Onward : Cursor → Result Cursor Fault → Type 0
-Onward c r = IfOk r (λ q. (q.text ≡ c.text) × (left q < left c) × (q.at ≤ length q.text.tokens.now))
+Onward c r = IfOk r (λ q. (q.text ≡ c.text) × (left q < left c) × (q.at ≤ length q.text.now.tokens.now))
 
 -- What F puts before a stack is read, from the place c to the answer r.
 pub record Reads (F : List Sym → List Sym) (c : Cursor) (r : Result Cursor Fault) : Type 0 where
@@ -175,11 +175,11 @@ main_rest K = token CloseParen ∷ token OpenBrace ∷ a_block 1 K
 -- one item is read, where main does not begin
 pub record ReadsItem (c : Cursor) (r : Result Cursor Fault) : Type 0 where
   pub onward : Onward c r
-  pub same : (s : List ℕ) (K : List Sym) → past_main s c.text.tokens.now c.at ≡ None → ahead s c (script ∷ K) ≡ resumed s (script ∷ K) r
+  pub same : (s : List ℕ) (K : List Sym) → past_main s c.text.now.tokens.now c.at ≡ None → ahead s c (script ∷ K) ≡ resumed s (script ∷ K) r
 
 -- all is read, of the source of this text
 abbrev pub ReadsScript : Cursor → Result Cursor Fault → Type 0
-ReadsScript c r = (K : List Sym) → ahead c.text.source.now c (script ∷ K) ≡ resumed c.text.source.now K r
+ReadsScript c r = (K : List Sym) → ahead c.text.now.source.now c (script ∷ K) ≡ resumed c.text.now.source.now K r
 
 -- the verdict on all the tokens
 abbrev pub outcome_of : Result (Unit {0}) Fault → Outcome

@@ -99,8 +99,8 @@ impl<'a> Cursor<'a> {
 }
 
 // A script, and nothing after it.
-pub(crate) fn whole(text: Text) -> Result<(), Fault>
-    ensures { judge a_script 0 (lexemes text.entry.source.now text.entry.tokens.now) ≡ outcome_of result }
+pub(crate) fn whole(text: &Text) -> Result<(), Fault>
+    ensures { judge a_script 0 (lexemes text.now.source.now text.now.tokens.now) ≡ outcome_of result }
 {
     let end = Cursor { text, at: 0 }.script()?;
     if end.at < end.text.tokens.len() {

@@ -37,5 +37,5 @@ pub fn parse(source: &[u8], tokens: &[Token]) -> Result<(), Refusal>
     ensures only { OneVerdict }
 {
     // The closure takes the two lists: of what one that takes a text answers, the proof learns nothing.
-    whole(Text { source, tokens }).map_err(|fault| refusal_of(Text { source, tokens }, fault))
+    whole(&Text { source, tokens }).map_err(|fault| refusal_of(Text { source, tokens }, fault))
 }

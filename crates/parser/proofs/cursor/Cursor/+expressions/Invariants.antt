@@ -29,7 +29,7 @@ decreases-called l = 16 * left l.self + 10
 abbrev pub invariant-binary-operands : goal.invariant-binary-operands
 invariant-binary-operands l = record {
   fewer : left l.end < left l.self;
-  within : l.end.at ≤ length l.end.text.tokens.now;
+  within : l.end.at ≤ length l.end.text.now.tokens.now;
   came : Comes (operands l.loosest l.depth) l.self (λ K. tail l.loosest l.depth ∷ K) l.end;
 }
 

@@ -6,7 +6,7 @@ use Rattle.parser.proofs.cursor.Cursor.script.Given as goal
 abbrev pub invariant-items : goal.invariant-items
 invariant-items l = record {
   text : l.item.text ≡ l.self.text;
-  same : (K : List Sym) → ahead l.self.text.source.now l.self (script ∷ K) ≡ ahead l.self.text.source.now l.item (script ∷ K);
+  same : (K : List Sym) → ahead l.self.text.now.source.now l.self (script ∷ K) ≡ ahead l.self.text.now.source.now l.item (script ∷ K);
 }
 
 abbrev pub decreases-items : goal.decreases-items
