@@ -38,7 +38,7 @@ reading {G = G} x = let l = x.onward.1 in record { text = x.onward.0; near = ome
 pub and_then : {F G H : List Sym → List Sym} {a b c : Cursor} → Comes F a G b → Comes G b H c → Comes F a H c
 and_then x y = let m = x.near in let n = y.near in record { text = y.text ∙ x.text; near = omega arith; same = λ s K. x.same s K ∙ y.same s K }
 
-onward : (b c : Cursor) (r : Result Cursor Fault) → c.text ≡ b.text → left c ≤ left b → Onward c r → Onward b r
+pub onward : (b c : Cursor) (r : Result Cursor Fault) → c.text ≡ b.text → left c ≤ left b → Onward c r → Onward b r
 onward b c (Ok q) t n h = let l = h.1 in (h.0 ∙ t, omega arith, h.2)
 onward b c (Err f) t n h = tt
 

@@ -496,6 +496,17 @@ main_opened true true false m n h = let z : ◌≡◌ {A = ℕ} 0 1 = cc in absu
 main_opened true false c m n h = let z : ◌≡◌ {A = ℕ} 0 1 = cc in absurd (omega arith)
 main_opened false b c m n h = let z : ◌≡◌ {A = ℕ} 0 1 = cc in absurd (omega arith)
 
+-- main's beginning is passed onward
+static_near : (t : Bool) (i : ℕ) → i ≤ cond t (i + 1) i
+static_near true i = omega arith
+static_near false i = omega arith
+
+pub main_near : (s : List ℕ) (ts : List Token) (i m : ℕ) → past_main s ts i ≡ Some m → i ≤ m
+main_near s ts i m h =
+    let o = main_opened (is_kind (seen ts (past_static ts i)) Kinds.Int) (is_main s ts (past_static ts i + 1)) (is_kind (seen ts (past_static ts i + 2)) Kinds.OpenParen) m (past_static ts i + 3) h in
+    let n = static_near (is_kind (seen ts i) Kinds.Static) i in
+    omega (arith, o.3, n)
+
 pub script_main : (s : List ℕ) (ts : List Token) (i m : ℕ) (K : List Sym) → past_main s ts i ≡ Some m → from s ts (script ∷ K) i ≡ from s ts (main_rest K) m
 script_main s ts i m K h =
     let o = main_opened (is_kind (seen ts (past_static ts i)) Kinds.Int) (is_main s ts (past_static ts i + 1)) (is_kind (seen ts (past_static ts i + 2)) Kinds.OpenParen) m (past_static ts i + 3) h in

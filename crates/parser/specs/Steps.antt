@@ -178,8 +178,9 @@ pub record ReadsItem (c : Cursor) (r : Result Cursor Fault) : Type 0 where
   pub same : (s : List ℕ) (K : List Sym) → past_main s c.text.now.tokens.now c.at ≡ None → ahead s c (script ∷ K) ≡ resumed s (script ∷ K) r
 
 -- all is read, of the source of this text
-abbrev pub ReadsScript : Cursor → Result Cursor Fault → Type 0
-ReadsScript c r = (K : List Sym) → ahead c.text.now.source.now c (script ∷ K) ≡ resumed c.text.now.source.now K r
+pub record ReadsScript (c : Cursor) (r : Result Cursor Fault) : Type 0 where
+  pub onward : Onward c r
+  pub same : (K : List Sym) → ahead c.text.now.source.now c (script ∷ K) ≡ resumed c.text.now.source.now K r
 
 -- the verdict on all the tokens
 abbrev pub outcome_of : Result (Unit {0}) Fault → Outcome
