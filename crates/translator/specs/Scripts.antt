@@ -182,3 +182,7 @@ CompiledTo s ts before after (Err f) =
 -- tokens that are few and placed are compiled, where there is room for their code
 abbrev pub Compiles : List ℕ → List Token → (before after : List Instruction) → Result ℕ Refusal → Type 0
 Compiles s ts before after r = AllPlaced (lexemes s ts) → length ts ≤ token_limit → code_limit ≤ length before → CompiledTo s ts before after r
+
+-- and so are the tokens of a script, which nothing but the check refuses
+abbrev pub CompilesScript : List ℕ → List Token → (before after : List Instruction) → Result ℕ Refusal → Type 0
+CompilesScript s ts before after r = (t : Script) → Accepted (lexemes s ts) t → Compiles s ts before after r

@@ -2,7 +2,7 @@
 ghost use Rattle.std.specs.Prelude.{◌≡◌, ◌≤◌, ◌++◌, length, drop};
 ghost use Rattle.refusal.specs.Told.{told};
 ghost use Rattle.stacks.specs.Held.{seen};
-ghost use Rattle.translator.specs.Scripts.{SizesAre, Compiles};
+ghost use Rattle.translator.specs.Scripts.{SizesAre, CompilesScript, Compiles};
 ghost use Rattle.translator.specs.Translation.{Translation, tokens_after, OneAnswer};
 
 use crate::counts::Counts;
@@ -50,12 +50,15 @@ fn copy_code(from: &BoundedStack<Instruction>, to: &mut [Instruction]) -> usize
     made.len()
 }
 
-// Compiles the tokens of a source, and answers how many instructions came of them. The list changes only where the tokens
-// are a script's that passes the check.
-fn compile(source: &[u8], tokens: &[Token], code: &mut [Instruction]) -> Result<usize, Refusal>
-    ensures { Compiles source.now tokens.now code.old code.new result }
+// Compiles the tokens of a script. Apart from `compile` for speed: lists that are made after a check are written twice, as
+// their function begins and then again, which were 76 KiB more for each source, a refused one's too.
+fn compile_script(
+    source: &[u8],
+    tokens: &[Token],
+    code: &mut [Instruction],
+) -> Result<usize, Refusal>
+    ensures { CompilesScript source.now tokens.now code.old code.new result }
 {
-    parse(source, tokens)?;
     let mut names = [Name::default(); NAMES];
     let mut jumps = [Jump::default(); TOKEN_LIMIT];
     let mut records = [Instruction::default(); CODE_LIMIT];
@@ -66,6 +69,15 @@ fn compile(source: &[u8], tokens: &[Token], code: &mut [Instruction]) -> Result<
     };
     work.script(&Text { source, tokens })?;
     Ok(copy_code(&work.code, code))
+}
+
+// Compiles the tokens of a source, and answers how many instructions came of them. The list changes only where the tokens
+// are a script's that passes the check.
+fn compile(source: &[u8], tokens: &[Token], code: &mut [Instruction]) -> Result<usize, Refusal>
+    ensures { Compiles source.now tokens.now code.old code.new result }
+{
+    parse(source, tokens)?;
+    compile_script(source, tokens, code)
 }
 
 // Translates a source: its tokens come into the first records of `tokens`, its code into those of `code`, and the answer is
