@@ -74,6 +74,10 @@ begins_is (x ∷ p) (b ∷ r) = ap (λ t. t && starts_with eqb r p) (eqb_sym x b
 pub begun : (p r : List ℕ) (t : Bool) → t ≡ starts_with eqb r p → begins p r ≡ t
 begun p r t e = sym (begins_is p r) ∙ sym e
 
+pub not_begun : (x : ℕ) (p r : List ℕ) → (get_or r 0 0 ≡ x → ⊥) → begins (x ∷ p) r ≡ false
+not_begun x p [] f = refl
+not_begun x p (b ∷ r) f = ap (λ t. t && begins p r) (ne_eqb b x f)
+
 -- the fronts that are no part of a token
 
 pub blank_front : (p : ℕ) (r : List ℕ) → class_of (get_or r 0 0) ≡ Blank → front Code p r ≡ between Code 0
